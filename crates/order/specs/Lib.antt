@@ -1,2 +1,5 @@
+pub mod History
+pub mod Laws
 pub mod Posts
 pub mod Records
+pub mod Vectors
