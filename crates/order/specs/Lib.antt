@@ -3,3 +3,4 @@ pub mod Laws
 pub mod Posts
 pub mod Records
 pub mod Vectors
+pub mod Walk

@@ -3,7 +3,7 @@ use mathlib.Core.Bool.{Bool, true, false, _||_, _&&_}
 use mathlib.Core.List.{List, [], _∷_, _++_}
 use Prim.Native.Nat.{ℕ, zero, suc, _/_, _%_, _^_}
 use lib.Dec.{eqb}
-use lib.ListN.{length}
+use lib.ListN.{length, drop}
 
 -- whether post q is in the set with these bits
 unfoldable pub has : ℕ → ℕ → Bool
@@ -25,3 +25,7 @@ members bits = below 64 bits
 
 abbrev pub size : ℕ → ℕ
 size bits = length (members bits)
+
+-- the members from q on, ascending: those that are left when the members below q are done
+unfoldable pub from : ℕ → ℕ → List ℕ
+from q bits = drop (length (below q bits)) (members bits)
