@@ -1,0 +1,4 @@
+pub mod Clusters
+pub mod Laws
+pub mod Rules
+pub mod Kept

@@ -1,0 +1,2 @@
+// Clusters of posts that talk together: the partition, the policies that decide on merges, and the cluster rule.
+pub mod outcome;
