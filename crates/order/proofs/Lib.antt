@@ -1,1 +1,2 @@
 pub mod PostSets
+pub mod Forms

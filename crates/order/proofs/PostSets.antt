@@ -14,7 +14,7 @@ use lib.Bits.{bitAnd, bitOr, and-mask, or-shr, or-step, or-lt}
 use lib.Count.{ones, ones-cat}
 use lib.Pow.{pow-pos, pow-lt, pow-mono, pow-add, shl-shr, mod-pow-add, ones-split, high, ones-lt}
 use Rattle.std.proofs.shelf.Bits.{mod-below, one-shl}
-use Rattle.std.proofs.shelf.Lists.{append-nil, append-assoc, length-append, length-push, getD-append-left, getD-push, take-at, drop-all, drop-more}
+use Rattle.std.proofs.shelf.Lists.{getD-at, append-nil, append-assoc, length-append, length-push, getD-append-left, getD-push, take-at, drop-all, drop-more}
 use Rattle.std.proofs.shelf.Tests.{cases-order, cases-lt, cases-bool, cond-below, lt-ltb, le-ltb, eq-eqb, ne-eqb}
 use Rattle.std.proofs.shelf.Ways.{tells, eqb-tells}
 use Rattle.order.specs.Posts.{has, kept, below, members, size, from}
@@ -68,11 +68,13 @@ has-single p q = elim (cases-order q p) [ inl e ↦ same e | inr r ↦ elim r [ 
   where
     same : q ≡ p → has (2 ^ p) q ≡ eqb q p
     same e = has-at (2 ^ p) q 1 (rw e (ap (λ (n : ℕ). n % 2) (div-self (pow-pos p)))) ∙ sym (eq-eqb q p e)
+
     less : q < p → has (2 ^ p) q ≡ eqb q p
     less l =
         let j = past-by q p l in
         has-at (2 ^ p) q 0 (ap (λ (n : ℕ). n / 2 ^ q % 2) (ap (λ (n : ℕ). 2 ^ n) (sym (j .1)) ∙ pow-add 2 (suc (j .0)) q) ∙ ap (λ (n : ℕ). n % 2) (shl-shr (2 ^ suc (j .0)) q) ∙ omega (arith, pow-suc 2 (j .0)))
         ∙ sym (ne-eqb q p (λ e. omega arith))
+
     more : p < q → has (2 ^ p) q ≡ eqb q p
     more g = has-at (2 ^ p) q 0 (ap (λ (n : ℕ). n % 2) (div-eq-of-lt (pow-lt g))) ∙ sym (ne-eqb q p (λ e. omega arith))
 
@@ -153,7 +155,7 @@ unfolding below
 below-more n b = ap (λ (m : ℕ). below m b) (add-one n)
 
 pub length-below-more
-  : (n b : ℕ) → ((has b n ≡ true) × (length (below (suc n) b) ≡ length (below n b) + 1)) ⊎ ((has b n ≡ false) × (length (below (suc n) b) ≡ length (below n b)))
+    : (n b : ℕ) → ((has b n ≡ true) × (length (below (suc n) b) ≡ length (below n b) + 1)) ⊎ ((has b n ≡ false) × (length (below (suc n) b) ≡ length (below n b)))
 length-below-more n b =
     elim (cases-bool (has b n)) [ inl t ↦ inl (t, ap length (below-with n b t) ∙ length-push (below n b) n) | inr f ↦ inr (f, ap length (below-without n b f)) ]
 
@@ -203,20 +205,20 @@ widen w = record { within = omega (arith, w .within); member = w .member; rank =
 placed-with : (n b i d : ℕ) → (i < length (below n b) → Placed n b i (getD (below n b) i d)) → has b n ≡ true → i < length (below (suc n) b) → Placed (suc n) b i (getD (below (suc n) b) i d)
 placed-with n b i d h t l =
     let e = below-with n b t in
-    elim (cases-lt i (length (below n b)))
-    [ inl k ↦ rw (e, getD-append-left (below n b) (n ∷ []) d i k) (widen (h k))
-    | inr k ↦
-        let m : length (below n b) ≡ i = omega (arith, ap length e, length-push (below n b) n) in
-        rw (e, getD-push (below n b) n d i m) (record { within = omega arith; member = t; rank = m })
+    elim (cases-lt i (length (below n b))) [
+      | inl k ↦ rw (e, getD-append-left (below n b) (n ∷ []) d i k) (widen (h k))
+      | inr k ↦
+          let m : length (below n b) ≡ i = omega (arith, ap length e, length-push (below n b) n) in
+          rw (e, getD-push (below n b) n d i m) (record { within = omega arith; member = t; rank = m })
     ]
 
 pub placed : (n b i d : ℕ) → i < length (below n b) → Placed n b i (getD (below n b) i d)
 placed zero b i d l = absurd (omega (arith, ap length (below-zero b), l))
 placed (suc n) b i d l =
     let h : i < length (below n b) → Placed n b i (getD (below n b) i d) = λ k. placed n b i d k in
-    elim (cases-bool (has b n))
-    [ inl t ↦ placed-with n b i d h t l
-    | inr f ↦ let e = below-without n b f in rw e (widen (h (omega (arith, ap length e))))
+    elim (cases-bool (has b n)) [
+      | inl t ↦ placed-with n b i d h t l
+      | inr f ↦ let e = below-without n b f in rw e (widen (h (omega (arith, ap length e))))
     ]
 
 pub length-below-first : (n b : ℕ) → ((q : ℕ) → has b q ≡ ltb q n) → (k : ℕ) → length (below k b) ≡ min k n
@@ -228,12 +230,12 @@ pub size-first : (n b : ℕ) → n ≤ 64 → ((q : ℕ) → has b q ≡ (ltb q 
 size-first n b l h = omega (arith, length-below-first n b (λ q. let e = h q in grind (arith, tells)) 64)
 
 digit-ones
-  : (n b k : ℕ) → k ≡ length (below n b) → ones (b / 2 ^ n % 2) + k ≡ length (below (suc n) b)
+    : (n b k : ℕ) → k ≡ length (below n b) → ones (b / 2 ^ n % 2) + k ≡ length (below (suc n) b)
 unfolding ones
 digit-ones n b k e =
-    elim (has-digit b n)
-    [ inl t ↦ rw (t .1, below-with n b (t .0), length-push) (omega arith)
-    | inr f ↦ rw (f .1, below-without n b (f .0)) (omega arith)
+    elim (has-digit b n) [
+      | inl t ↦ rw (t .1, below-with n b (t .0), length-push) (omega arith)
+      | inr f ↦ rw (f .1, below-without n b (f .0)) (omega arith)
     ]
 
 pub ones-below : (n b : ℕ) → ones (b % 2 ^ n) ≡ length (below n b)
@@ -281,3 +283,15 @@ from-without q b h = ap (λ (xs : List ℕ). drop (length xs) (members b)) (sym 
 pub walked : (xs : List ℕ) (s t : Members) → yields Steps s xs t → rest s ≡ xs ++ rest t
 walked [] s t y = ap rest y
 walked (x ∷ xs) s t y = y .1 ∙ ap (λ (ys : List ℕ). x ∷ ys) (walked xs (y .0) t (y .2))
+
+-- All of the members have come when none is left.
+pub walked-all : (xs : List ℕ) (s t : Members) (b : ℕ) → rest s ≡ members b → yields Steps s xs t → rest t ≡ [] → xs ≡ members b
+walked-all xs s t b start y end = sym (append-nil xs) ∙ ap (λ (ys : List ℕ). xs ++ ys) (sym end) ∙ sym (walked xs s t y) ∙ start
+
+-- The one that comes stands in the members at the place that counts those before it.
+pub walked-turn
+    : (xs : List ℕ) (s t u : Members) (b p : ℕ) → rest s ≡ members b → yields Steps s xs t → rest t ≡ p ∷ rest u
+    → (members b ≡ xs ++ p ∷ rest u) × (length xs < size b) × (getD (members b) (length xs) 0 ≡ p)
+walked-turn xs s t u b p start y now =
+    let e : members b ≡ xs ++ p ∷ rest u = sym start ∙ walked xs s t y ∙ ap (λ (ys : List ℕ). xs ++ ys) now in
+    (e, omega (arith, ap length e, length-append xs (p ∷ rest u)), ap (λ (ys : List ℕ). getD ys (length xs) 0) e ∙ getD-at xs p (rest u) 0 (length xs) refl)

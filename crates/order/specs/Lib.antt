@@ -1,3 +1,4 @@
 pub mod Posts
 pub mod Walk
 pub mod Records
+pub mod Reads

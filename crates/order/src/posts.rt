@@ -30,7 +30,9 @@ impl PostSet {
         if posts >= MAX_POSTS {
             return PostSet { bits: u64::MAX };
         }
-        PostSet { bits: (1 << posts) - 1 }
+        PostSet {
+            bits: (1 << posts) - 1,
+        }
     }
 
     pub fn contains(self, post: u8) -> bool

@@ -13,7 +13,7 @@ pub returns-then-contains : need.returns-then-contains
 returns-then-contains c =
     let s = c .loop-self .self in
     let e : rest (now (c .args .self)) ≡ s .next ∷ from (s .next + 1) (s .set .bits) =
-        sym (c .loop-self .inv) ∙ from-with (s .next) (s .set .bits) (omega arith) (sym (c .if-contains .ensures tt)) in
+    sym (c .loop-self .inv) ∙ from-with (s .next) (s .set .bits) (omega arith) (sym (c .if-contains .ensures tt)) in
     record { steps = e; goes = record { on = λ _. (tt, tt, omega (arith, ap length e)) } }
 
 pub loop-self-again : need.loop-self-again
