@@ -4,7 +4,7 @@ ghost use lib.ListN.{length, getD};
 ghost use mathlib.Core.Path.{_≡_};
 ghost use Rattle.std.specs.Results.{Cases};
 ghost use Rattle.std.specs.Vec.{made};
-ghost use Rattle.order.specs.Reads.{kindOf, recordOf, refused, partner-form};
+ghost use Rattle.order.specs.Reads.{ground, kindOf, recordOf, refused, partner-form};
 ghost use Rattle.order.specs.Records.{form, two-bytes};
 use crate::event::Event;
 use crate::event::EventDebug;
@@ -35,6 +35,21 @@ pub enum RecordFault {
     StrayBytes,
     // a receive's partner is at no other of the station's posts
     WrongPartner,
+}
+
+impl RecordFault {
+    // The number of the ground, as a station answers it.
+    pub fn ground(self) -> u8
+        ensures { λ r. ⌜ r ≡ ground self ⌝ }
+    {
+        match self {
+            RecordFault::WrongLength => 3,
+            RecordFault::UnknownKind => 4,
+            RecordFault::UnknownPost => 5,
+            RecordFault::StrayBytes => 6,
+            RecordFault::WrongPartner => 7,
+        }
+    }
 }
 
 impl Record {
