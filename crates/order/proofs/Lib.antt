@@ -1,4 +1,5 @@
 pub mod Chains
+pub mod Forms
 pub mod Held
 pub mod PostSets
 pub mod Vectors

@@ -14,7 +14,7 @@ use lib.Bits.{bitAnd, bitOr, and-mask, or-shr, or-step, or-lt}
 use lib.Count.{ones, ones-cat}
 use lib.Pow.{pow-pos, pow-lt, pow-mono, pow-add, shl-shr, mod-pow-add, ones-split, high, ones-lt}
 use Rattle.std.proofs.shelf.Bits.{mod-below, one-shl}
-use Rattle.std.proofs.shelf.Lists.{append-nil, append-assoc, length-append, length-push, getD-append-left, getD-push, take-at, drop-all, drop-more}
+use Rattle.std.proofs.shelf.Lists.{getD-at, append-nil, append-assoc, length-append, length-push, getD-append-left, getD-push, take-at, drop-all, drop-more}
 use Rattle.std.proofs.shelf.Tests.{cases-order, cases-lt, cases-bool, cond-below, lt-ltb, le-ltb, eq-eqb, ne-eqb}
 use Rattle.std.proofs.shelf.Ways.{tells, eqb-tells}
 use Rattle.order.specs.Posts.{has, kept, below, members, size, from}
@@ -283,3 +283,15 @@ from-without q b h = ap (λ (xs : List ℕ). drop (length xs) (members b)) (sym 
 pub walked : (xs : List ℕ) (s t : Members) → yields Steps s xs t → rest s ≡ xs ++ rest t
 walked [] s t y = ap rest y
 walked (x ∷ xs) s t y = y .1 ∙ ap (λ (ys : List ℕ). x ∷ ys) (walked xs (y .0) t (y .2))
+
+-- All of the members have come when none is left.
+pub walked-all : (xs : List ℕ) (s t : Members) (b : ℕ) → rest s ≡ members b → yields Steps s xs t → rest t ≡ [] → xs ≡ members b
+walked-all xs s t b start y end = sym (append-nil xs) ∙ ap (λ (ys : List ℕ). xs ++ ys) (sym end) ∙ sym (walked xs s t y) ∙ start
+
+-- The one that comes stands in the members at the place that counts those before it.
+pub walked-turn
+    : (xs : List ℕ) (s t u : Members) (b p : ℕ) → rest s ≡ members b → yields Steps s xs t → rest t ≡ p ∷ rest u
+    → (members b ≡ xs ++ p ∷ rest u) × (length xs < size b) × (getD (members b) (length xs) 0 ≡ p)
+walked-turn xs s t u b p start y now =
+    let e : members b ≡ xs ++ p ∷ rest u = sym start ∙ walked xs s t y ∙ ap (λ (ys : List ℕ). xs ++ ys) now in
+    (e, omega (arith, ap length e, length-append xs (p ∷ rest u)), ap (λ (ys : List ℕ). getD ys (length xs) 0) e ∙ getD-at xs p (rest u) 0 (length xs) refl)

@@ -2,3 +2,4 @@
 pub mod event;
 pub mod laws;
 pub mod posts;
+pub mod record;
