@@ -1,0 +1,37 @@
+-- The comparison of two stations.
+use mathlib.Core.List.{List, [], _∷_}
+use mathlib.Core.Logic.{_⊎_, _↔_}
+use mathlib.Core.Path.{_≡_}
+use Prim.Native.Nat.{ℕ}
+use Rattle.order.specs.History.{History, Held, Chain, Agree}
+use Rattle.order.specs.declared.event.Event.{Event}
+use Rattle.runs.specs.Calls.{Call, Reply, ForSpace}
+use Rattle.runs.specs.Calls.Call.{relate}
+use Rattle.runs.specs.Calls.Reply.{related}
+use Rattle.runs.specs.Runs.{Asked}
+use Rattle.station.specs.declared.asks.AskFault.{AskFault}
+use Rattle.station.specs.declared.asks.Relation.{Relation}
+use Rattle.station.specs.declared.asks.Relation.the-variants.{Before, After, Concurrent}
+use Rattle.std.specs.declared.result.Result.{Result}
+use Rattle.std.specs.declared.result.Result.the-variants.{Ok}
+
+-- The answer to relate is the one that the chains give.
+pub record By-chains (h : History) (e f : Event) (a : Result Relation AskFault) : Type 0 where
+  pub before : (a ≡ Ok Before) ↔ Chain h e f
+  pub after : (a ≡ Ok After) ↔ Chain h f e
+  pub concurrent : (a ≡ Ok Concurrent) ↔ ((Chain h e f → ⊥) × (Chain h f e → ⊥))
+
+-- Both relate alike any two events that both hold, if each event that both hold was taken from equal bytes: after
+-- any turns of the one and any of the other.
+abbrev pub Relate-alike : List Call → List Reply → List Call → List Reply → Type 0
+Relate-alike cs xs ds ys =
+    (e f : Event) (a b : Result Relation AskFault) (g h : History)
+    → Asked (relate e f) (related a) g [] cs xs → Asked (relate e f) (related b) h [] ds ys
+    → Agree g h → Held g e → Held h e → Held g f → Held h f
+    → (a ≡ b) × By-chains g e f a
+
+-- Answers that are alike turn by turn, before the first in which either refuses for space.
+pub data Alike-until-space : List Reply → List Reply → Type 0 where
+  end : Alike-until-space [] []
+  space : {a b : Reply} {xs ys : List Reply} → ForSpace a ⊎ ForSpace b → Alike-until-space (a ∷ xs) (b ∷ ys)
+  alike : {a b : Reply} {xs ys : List Reply} → a ≡ b → Alike-until-space xs ys → Alike-until-space (a ∷ xs) (b ∷ ys)

@@ -1,0 +1,2 @@
+// Lists of calls made of stations, and the comparison of two stations.
+pub mod turns;

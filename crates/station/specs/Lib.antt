@@ -1,0 +1,5 @@
+pub mod Asks
+pub mod Faults
+pub mod Feeds
+pub mod Stands
+pub mod Takes

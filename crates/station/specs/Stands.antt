@@ -1,0 +1,2 @@
+-- How a station stands to a history.
+use Prim.Native.Nat.{ℕ}

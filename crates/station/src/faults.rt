@@ -1,0 +1,43 @@
+// Why a call of a station is refused.
+use cluster::outcome::Outcome;
+use cluster::outcome::OutcomeDebug;
+use cluster::outcome::OutcomePartialEq;
+use keeper::fault::KeeperFault;
+use keeper::fault::KeeperFaultDebug;
+use keeper::fault::KeeperFaultPartialEq;
+use order::record::RecordFault;
+use order::record::RecordFaultDebug;
+use order::record::RecordFaultPartialEq;
+
+// What a take answers: what the cluster rule made of the event, and the number of entries kept of it.
+#[derive(Clone, Copy, PartialEq, Eq, Debug)]
+pub struct Taken {
+    pub outcome: Outcome,
+    pub entries: u8,
+}
+
+#[derive(Clone, Copy, PartialEq, Eq, Debug)]
+pub enum TakeFault {
+    // The station was opened over a keeper that held a stamp.
+    Barred,
+    // The record is ill formed.
+    Record(RecordFault),
+    // The number is not one more than the post's held count.
+    OutOfTurn,
+    // A receive's partner is not held.
+    PartnerNotHeld,
+    // A receive's partner is not a send.
+    PartnerNotSend,
+    // The send is already received.
+    AlreadyReceived,
+    // The keeper has no space for the stamp.
+    Keeper(KeeperFault),
+}
+
+#[derive(Clone, Copy, PartialEq, Eq, Debug)]
+pub enum FeedFault {
+    // The feed's length is not a multiple of eight.
+    Ragged,
+    // The record at this byte place is refused.
+    Take { place: usize, fault: TakeFault },
+}

@@ -1,0 +1,3 @@
+// The event station.
+pub mod asks;
+pub mod faults;
