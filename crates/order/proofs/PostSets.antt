@@ -229,6 +229,30 @@ length-below-first n b h (suc k) = let e = h k in let r = length-below-first n b
 pub size-first : (n b : ℕ) → n ≤ 64 → ((q : ℕ) → has b q ≡ (ltb q n && ltb q 64)) → size b ≡ n
 size-first n b l h = omega (arith, length-below-first n b (λ q. let e = h q in grind (arith, tells)) 64)
 
+length-below-single : (p k : ℕ) → length (below k (2 ^ p)) ≡ cond (ltb p k) 1 0
+length-below-single p zero = let e = ap length (below-zero (2 ^ p)) in grind (arith, tells)
+length-below-single p (suc k) =
+    let e = has-single p k in
+    let r = length-below-single p k in
+    let m = length-below-more k (2 ^ p) in
+    grind (arith, tells)
+
+pub size-single : (p : ℕ) → p < 64 → size (2 ^ p) ≡ 1
+size-single p l = length-below-single p 64 ∙ sym (cond-below p 64 1 0 l)
+
+pub length-below-union : (a b k : ℕ) → length (below k (bitOr a b)) ≤ length (below k a) + length (below k b)
+length-below-union a b zero = omega (arith, ap length (below-zero (bitOr a b)))
+length-below-union a b (suc k) =
+    let e = has-union a b k in
+    let r = length-below-union a b k in
+    let m = length-below-more k (bitOr a b) in
+    let ma = length-below-more k a in
+    let mb = length-below-more k b in
+    grind (arith, tells)
+
+pub size-union : (a b : ℕ) → size (bitOr a b) ≤ size a + size b
+size-union a b = length-below-union a b 64
+
 digit-ones
     : (n b k : ℕ) → k ≡ length (below n b) → ones (b / 2 ^ n % 2) + k ≡ length (below (suc n) b)
 unfolding ones
@@ -248,9 +272,12 @@ ones-below (suc n) b =
 pub ones-size : (b : ℕ) → b < 2 ^ 64 → ones b ≡ size b
 ones-size b l = ap ones (sym (mod-eq-of-lt l)) ∙ ones-below 64 b
 
--- every member is below 64
+-- a number of n digits has all its members below n
+pub below-within : (n m b : ℕ) → b < 2 ^ n → n ≤ m → below m b ≡ below n b
+below-within n m b l h = le-ind (λ (k : ℕ). below k b ≡ below n b) refl (λ k j e. below-without k b (has-past b n k l j) ∙ e) m h
+
 pub below-past : (n b : ℕ) → b < 2 ^ 64 → 64 ≤ n → below n b ≡ members b
-below-past n b l h = le-ind (λ (k : ℕ). below k b ≡ members b) refl (λ k m e. below-without k b (has-past b 64 k l m) ∙ e) n h
+below-past n b l h = below-within 64 n b l h
 
 pub ones-masked : (b n : ℕ) → n < 64 → ones (bitAnd b ((1 * 2 ^ n) % 2 ^ 64 - 1)) ≡ length (below n b)
 ones-masked b n l = rw (one-shl, and-mask) (ones-below n b)

@@ -32,16 +32,20 @@ at r h p k within =
       | inr below ↦ old below
     ]
 
-when : (b : Bool) (x y : ℕ) → b ≡ true → (elim b as (λ _. ℕ) [ true ↦ x | false ↦ y ]) ≡ x
+-- a choice by a test whose answer is known
+pub when : {A : Type 0} (b : Bool) (x y : A) → b ≡ true → (elim b as (λ _. A) [ true ↦ x | false ↦ y ]) ≡ x
 when true x y e = refl
 when false x y e = absurd (false≢true e)
 
-unless : (b : Bool) (x y : ℕ) → b ≡ false → (elim b as (λ _. ℕ) [ true ↦ x | false ↦ y ]) ≡ y
+pub unless : {A : Type 0} (b : Bool) (x y : A) → b ≡ false → (elim b as (λ _. A) [ true ↦ x | false ↦ y ]) ≡ y
 unless true x y e = absurd (true≢false e)
 unless false x y e = refl
 
-newest-is-new : (r : Bytes) (h : History) → is-new r h (post r) (suc (count h (post r))) ≡ true
+pub newest-is-new : (r : Bytes) (h : History) → is-new r h (post r) (suc (count h (post r))) ≡ true
 newest-is-new r h = and-from _ _ (eq-eqb (post r) (post r) refl) (eq-eqb (suc (count h (post r))) (suc (count h (post r))) refl)
+
+pub held-not-new : (r : Bytes) (h : History) (p k : ℕ) → k ≤ count h p → is-new r h p k ≡ false
+held-not-new r h p k within = and-right (eqb (post r) p) (eqb k (suc (count h p))) (ne-eqb k (suc (count h p)) (omega arith))
 
 pub vec-own : (r : Bytes) (h : History) → vec (r ∷ h) (post r) (suc (count h (post r))) (post r) ≡ suc (count h (post r))
 unfolding vec
@@ -54,7 +58,7 @@ vec-other r h q ne = when _ _ _ (newest-is-new r h) ∙ unless _ _ _ (ne-eqb (po
 
 pub vec-old : (r : Bytes) (h : History) (p k q : ℕ) → k ≤ count h p → vec (r ∷ h) p k q ≡ vec h p k q
 unfolding vec
-vec-old r h p k q within = unless _ _ _ (and-right (eqb (post r) p) (eqb k (suc (count h p))) (ne-eqb k (suc (count h p)) (omega arith)))
+vec-old r h p k q within = unless _ _ _ (held-not-new r h p k within)
 
 pub vec-empty : (p k q : ℕ) → vec [] p k q ≡ 0
 unfolding vec

@@ -1,0 +1,3 @@
+pub mod Clusters
+pub mod Covers
+pub mod Kept
