@@ -1,6 +1,7 @@
 pub mod Clusters
+pub mod Kept
 pub mod Laws
 pub mod Partitions
+pub mod Policies
 pub mod Rules
-pub mod Kept
 pub mod Sets
