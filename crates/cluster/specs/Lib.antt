@@ -1,4 +1,7 @@
 pub mod Clusters
-pub mod Laws
-pub mod Rules
 pub mod Kept
+pub mod Laws
+pub mod Partitions
+pub mod Policies
+pub mod Rules
+pub mod Sets
