@@ -301,7 +301,7 @@ source P {n} (taken {r = r} {h = h} v g) p k q held out = go p k (at r h p k hel
             let pn = partner-number r in
             let most = passed n h r g .pair two .most in
             handed pp pn most (cover-partner P n h r v g two) (cover-has-partner P n h r v g two) (omega (arith, send-below r h pp v g two, vec-self h pp pn most))
-                (omega (arith, vec-other r h q ne, brought-by r h q two)) out (λ o. ih pp pn most o)
+            (omega (arith, vec-other r h q ne, brought-by r h q two)) out (λ o. ih pp pn most o)
         | inr none ↦ absurd (omega (arith, brought-none r h q none))
       ]
       | inr less ↦ handed (post r) last (omega arith) (cover-own P n h r v g) (cover-has P n h r v g) (omega (arith, vec-own r h)) (omega (arith, vec-other r h q ne)) out

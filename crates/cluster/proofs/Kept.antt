@@ -88,7 +88,7 @@ received-new n r h v g =
 stamp-same : {kind kind′ : Kind} {marked marked′ : Bool} {cover cover′ full full′ : ℕ} {entries entries′ : List ℕ}
     → kind ≡ kind′ → marked ≡ marked′ → cover ≡ cover′ → full ≡ full′ → entries ≡ entries′
     → _≡_ {A = Stamp} (record { kind = kind; marked = marked; cover = cover; full = full; entries = entries })
-        (record { kind = kind′; marked = marked′; cover = cover′; full = full′; entries = entries′ })
+    (record { kind = kind′; marked = marked′; cover = cover′; full = full′; entries = entries′ })
 stamp-same a b c d e = λ i. record { kind = a i; marked = b i; cover = c i; full = d i; entries = e i }
 
 -- a stamp with another mark
@@ -223,8 +223,13 @@ module _ (P : Rule) (n : ℕ) (h : History) (most : n ≤ 64) (v : Valid n h) (q
           let m = vec h p k x in
           let fits : c < 2 ^ 64 = omega (arith, cover-at-bits P v p k held, pow-mono most) in
           let l = has-bound c x fits (src .covered) in
-          omega (arith, tells-at x l (src .covered), largest-least tells 64 c x l (src .covered), src .value,
-            told-least x m (src .at-event) (vec-count v p k x held) (src .some) (src .known) (src .full))
+          omega (
+            arith,
+            tells-at x l (src .covered),
+            largest-least tells 64 c x l (src .covered),
+            src .value,
+            told-least x m (src .at-event) (vec-count v p k x held) (src .some) (src .known) (src .full),
+          )
 
 pub comes-back : Comes-back
 comes-back P n h most v p k q here some held inside = elim (cases-bool (has (cover-at P n h p k) q)) [

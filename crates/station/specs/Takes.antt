@@ -8,7 +8,7 @@ use Rattle.cluster.specs.Clusters.{outcome, cover}
 use Rattle.cluster.specs.Rules.{Rule}
 use Rattle.keeper.specs.Piles.{price}
 use Rattle.keeper.specs.declared.fault.KeeperFault.the-variants.{NoSpace}
-use Rattle.order.specs.History.{History, ground}
+use Rattle.order.specs.History.{History, ground, partner-ground}
 use Rattle.order.specs.Posts.{size}
 use Rattle.order.specs.Reads.{recordOf}
 use Rattle.order.specs.Records.{Bytes}
@@ -36,6 +36,10 @@ refusal g =
 -- what is found of a record before anything is decided on its stamp
 abbrev pub judged : ℕ → History → Bytes → Result Record TakeFault
 judged n h r = let g = ground n h r in elim (eqb g 0) [ true ↦ Ok (recordOf r) | false ↦ Err (refusal g) ]
+
+-- what is found of a receive's partner
+abbrev pub partner-judged : History → Bytes → Result (Unit {0}) TakeFault
+partner-judged h r = let g = partner-ground h r in elim (eqb g 0) [ true ↦ Ok tt | false ↦ Err (refusal g) ]
 
 -- The answer of a take: the first ground that refuses the record, else a lack of space, else what the cluster rule
 -- makes of it and the size of its cover.

@@ -1,4 +1,5 @@
 // Why a call of a station is refused.
+ghost use mathlib.Core.Path.{_≡_};
 use cluster::outcome::Outcome;
 use cluster::outcome::OutcomeDebug;
 use cluster::outcome::OutcomePartialEq;
@@ -40,4 +41,20 @@ pub enum FeedFault {
     Ragged,
     // The record at this byte place is refused.
     Take { place: usize, fault: TakeFault },
+}
+
+pub impl From<RecordFault> for TakeFault as RecordIntoTake {
+    ghost converts = { λ e r. r ≡ TakeFault.Record e };
+
+    fn from(e: RecordFault) -> TakeFault {
+        TakeFault::Record(e)
+    }
+}
+
+pub impl From<KeeperFault> for TakeFault as KeeperIntoTake {
+    ghost converts = { λ e r. r ≡ TakeFault.Keeper e };
+
+    fn from(e: KeeperFault) -> TakeFault {
+        TakeFault::Keeper(e)
+    }
 }

@@ -1,3 +1,5 @@
 // The event station.
 pub mod asks;
+pub mod core;
 pub mod faults;
+mod judge;

@@ -1,0 +1,54 @@
+// The grounds on which a record is refused before anything is decided on its stamp.
+ghost use Prim.Native.Nat.{_<_};
+ghost use mathlib.Core.Path.{_≡_};
+ghost use Rattle.order.specs.History.{History};
+ghost use Rattle.order.specs.Records.{Bytes, partner};
+ghost use Rattle.station.specs.Stands.{Stands};
+ghost use Rattle.station.specs.Takes.{judged, partner-judged};
+use super::core::Station;
+use super::faults::KeeperIntoTake;
+use super::faults::RecordIntoTake;
+use super::faults::TakeFault;
+use cluster::policy::Policy;
+use keeper::Keeper;
+use order::event::Event;
+use order::event::Kind;
+use order::record::Record;
+
+impl<P: Policy, K: Keeper> Station<P, K> {
+    // The record, if none of the grounds on its form, its number and its partner refuses it.
+    pub fn judge(&self, bytes: &[u8]) -> Result<Record, TakeFault>
+        ensures { λ r. ⌜ ((h : History) → Stands rule sound meaning (now (self .entry)) h → r ≡ judged (meaning (now (self .entry) .keeper) .posts) h (now (bytes .entry))) ⌝ }
+    {
+        if self.barred {
+            return Err(TakeFault::Barred);
+        }
+        let record = Record::read(bytes, self.keeper.posts())?;
+        let count = self.keeper.count(record.event.post)?;
+        if record.event.number as u32 != count as u32 + 1 {
+            return Err(TakeFault::OutOfTurn);
+        }
+        if let Kind::Receive = record.kind {
+            self.judge_partner(record.partner)?;
+        }
+        Ok(record)
+    }
+
+    // Whether a receive may name this partner.
+    fn judge_partner(&self, partner: Event) -> Result<(), TakeFault>
+        ensures { λ r. ⌜ ((h : History) (b : Bytes) → Stands rule sound meaning (now (self .entry)) h → partner b ≡ partner → partner .post < meaning (now (self .entry) .keeper) .posts → r ≡ partner-judged h b) ⌝ }
+    {
+        let count = self.keeper.count(partner.post)?;
+        if partner.number == 0 || partner.number > count {
+            return Err(TakeFault::PartnerNotHeld);
+        }
+        match self.keeper.kind(partner)? {
+            Kind::Send => {}
+            _ => return Err(TakeFault::PartnerNotSend),
+        }
+        if self.keeper.marked(partner)? {
+            return Err(TakeFault::AlreadyReceived);
+        }
+        Ok(())
+    }
+}
