@@ -1,3 +1,4 @@
 pub mod Clusters
 pub mod Covers
 pub mod Kept
+pub mod Traffic

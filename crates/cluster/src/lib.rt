@@ -1,2 +1,3 @@
 // Clusters of posts that talk together: the partition, the policies that decide on merges, and the cluster rule.
+pub mod laws;
 pub mod outcome;
