@@ -1,28 +1,39 @@
 -- Clusters: what the rule makes of a record, how a record changes the clusters, and that they stay a partition
 -- within the limit.
-use mathlib.Core.Bool.{Bool, true, false, cond, _||_}
-use mathlib.Core.List.{List, [], _∷_}
+use mathlib.Core.Bool.{Bool, true, false, cond, _||_, _&&_}
+use mathlib.Core.HLevel.{isProp→PathP, Π-prop}
+use mathlib.Core.List.{[], _∷_}
 use mathlib.Core.Logic.{_⊎_, inl, inr}
 use mathlib.Core.Path.{_≡_, refl, sym, ap, _∙_, subst}
 use Prim.Native.Nat.{ℕ, suc, _+_, _^_, _≤_, _<_}
+use native.Mathlib.Bridge.{le-prop}
 use native.Mathlib.Omega.{arith}
-use lib.Bits.{bitOr, or-lt}
-use lib.Dec.{eqb}
+use lib.Bits.{or-lt}
 use lib.ListN.{length}
 use lib.Pow.{pow-lt, pow-mono}
-use Rattle.std.proofs.shelf.Tests.{cases-bool, cases-eq, eq-eqb, ne-eqb, eqb-true, eqb-false, cond-true, cond-false, or-cases, or-left, or-right, or-parts, true≢false, false≢true, both-ways}
-use Rattle.order.specs.History.{History, Valid, count, ground}
+use Rattle.std.proofs.shelf.Tests.{cases-bool, cases-eq, eq-eqb, ne-eqb, eqb-true, cond-true, cond-false, or-cases, or-left, or-right, both-ways}
+use Rattle.order.specs.History.{History, Valid, ground}
 use Rattle.order.specs.History.Valid.{start, taken}
 use Rattle.order.specs.Posts.{has, size}
 use Rattle.order.specs.Records.{Bytes, post, kind, partner-post, receives}
-use Rattle.order.proofs.Held.{Passed, passed}
+use Rattle.order.proofs.Held.{passed}
 use Rattle.order.proofs.PostSets.{has-single, has-union, size-single, size-union}
 use Rattle.order.proofs.Vectors.{when, unless}
 use Rattle.cluster.specs.Clusters.{crosses, exchanges, decide, merged, cluster, outcome}
 use Rattle.cluster.specs.Laws.{Parted, Clusters-part, Limit-kept, Together-stays}
-use Rattle.cluster.specs.Rules.{Rule}
+use Rattle.cluster.specs.Rules.{Rule, SameRule}
 use Rattle.cluster.specs.declared.outcome.Outcome.{Outcome}
 use Rattle.cluster.specs.declared.outcome.Outcome.the-variants.{Plain, Merged, Across}
+
+-- two policies with the same meaning are one
+pub same-rule : (P Q : Rule) → SameRule P Q → P ≡ Q
+same-rule P Q e = λ i. record {
+  limit = e .limit i;
+  says = λ a b x. e .says a b x i;
+  least = isProp→PathP (λ i. 1 ≤ e .limit i) (λ i. le-prop) (P .least) (Q .least) i;
+  most = isProp→PathP (λ i. e .limit i ≤ 64) (λ i. le-prop) (P .most) (Q .most) i;
+  keeps = isProp→PathP (λ i. (a b x : ℕ) → e .says a b x i ≡ true → a + b ≤ e .limit i) (λ i. Π-prop (λ a. Π-prop (λ b. Π-prop (λ x. Π-prop (λ t. le-prop))))) (P .keeps) (Q .keeps) i;
+}
 
 -- Each outcome, with why it is that one.
 pub data Ruled (P : Rule) (c : ℕ → ℕ) (h : History) (r : Bytes) : Outcome → Type 0 where
@@ -214,3 +225,16 @@ exchanges-most (r ∷ h) a b = elim (cases-bool (crosses a b r)) [
   | inl t ↦ omega (arith, cond-true (crosses a b r) (suc (exchanges h a b)) (exchanges h a b) t, exchanges-most h a b)
   | inr f ↦ omega (arith, cond-false (crosses a b r) (suc (exchanges h a b)) (exchanges h a b) f, exchanges-most h a b)
 ]
+
+or-swap : (x y : Bool) → (x || y) ≡ (y || x)
+or-swap true true = refl
+or-swap true false = refl
+or-swap false true = refl
+or-swap false false = refl
+
+-- between two clusters in either order
+pub exchanges-swap : (h : History) (a b : ℕ) → exchanges h a b ≡ exchanges h b a
+unfolding exchanges
+exchanges-swap [] a b = refl
+exchanges-swap (r ∷ h) a b =
+    λ i. cond (receives r && or-swap (has a (post r) && has b (partner-post r)) (has b (post r) && has a (partner-post r)) i) (suc (exchanges-swap h a b i)) (exchanges-swap h a b i)

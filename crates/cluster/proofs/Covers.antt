@@ -1,28 +1,26 @@
 -- Covers and full events: what a cover has, which event is the latest full one, and where an entry that is not covered
 -- comes from.
-use mathlib.Core.Bool.{Bool, true, false, cond, _&&_}
-use mathlib.Core.List.{List, [], _∷_}
+use mathlib.Core.Bool.{true, false}
+use mathlib.Core.List.{[], _∷_}
 use mathlib.Core.Logic.{_⊎_, inl, inr}
 use mathlib.Core.Path.{_≡_, refl, sym, ap, _∙_, subst}
-use Prim.Native.Nat.{ℕ, suc, _-_, _^_, _≤_, _<_, max}
+use Prim.Native.Nat.{ℕ, suc, _^_, _≤_, _<_}
 use native.Mathlib.Omega.{arith}
 use lib.Bits.{or-lt}
-use lib.Dec.{eqb, ltb}
 use lib.ListN.{length}
 use lib.Pow.{pow-pos, pow-mono, ones-lt}
-use Rattle.std.proofs.shelf.Tests.{cases-bool, cases-eq, cases-lt, eq-eqb, ne-eqb, lt-ltb, and-parts, eqb-true, both-ways, true≢false, false≢true}
+use Rattle.std.proofs.shelf.Tests.{cases-bool, cases-eq, cases-lt, eq-eqb, ne-eqb, lt-ltb, both-ways}
 use Rattle.std.proofs.shelf.Ways.{tells}
 use Rattle.order.specs.History.{History, Valid, count, ground}
 use Rattle.order.specs.History.Valid.{start, taken}
 use Rattle.order.specs.Posts.{has, below, members, size}
 use Rattle.order.specs.Records.{Bytes, post, kind, partner-post, partner-number}
-use Rattle.order.specs.Vectors.{is-new, vec}
+use Rattle.order.specs.Vectors.{vec}
 use Rattle.order.proofs.Held.{passed, count-none, count-own}
 use Rattle.order.proofs.PostSets.{has-empty, has-ones, has-past, below-within, size-first}
 use Rattle.order.proofs.Vectors.{At, at, when, unless, newest-is-new, held-not-new, brought, brought-by, brought-none, vec-empty, vec-none, vec-own, vec-other, vec-old, vec-self, vec-count, vec-closed, send-below}
 use Rattle.order.proofs.Vectors.At.{new, old}
-use Rattle.cluster.specs.Clusters.{all, merged, cluster, outcome, cover-by, cover, cover-at, latest-full}
-use Rattle.cluster.specs.Laws.{Parted}
+use Rattle.cluster.specs.Clusters.{all, cluster, outcome, cover-by, cover, cover-at, latest-full}
 use Rattle.cluster.specs.Rules.{Rule}
 use Rattle.cluster.specs.declared.outcome.Outcome.{Outcome}
 use Rattle.cluster.specs.declared.outcome.Outcome.the-variants.{Plain, Merged, Across}
@@ -36,6 +34,10 @@ has-each n q l = has-ones n q ∙ lt-ltb q n l
 
 pub size-all : (n : ℕ) → n ≤ 64 → size (all n) ≡ n
 size-all n l = size-first n (all n) l (λ q. let e = has-ones n q in grind (arith, tells))
+
+-- a member of a set of n digits is below n
+has-below : (b n q : ℕ) → b < 2 ^ n → has b q ≡ true → q < n
+has-below b n q l t = elim (cases-lt q n) [ inl k ↦ k | inr past ↦ absurd (both-ways _ (has-past b n q l past) t) ]
 
 -- ---- the cover of a record that no ground refuses
 
@@ -52,6 +54,12 @@ module _ (P : Rule) (n : ℕ) (h : History) (r : Bytes) (v : Valid n h) (g : gro
       go _ (within two t) = own
       go _ (merges two f says) = or-lt n (cluster P h (post r)) (cluster P h (partner-post r)) own (cluster-bits P v (partner-post r) (passed n h r g .pair two .inside))
       go _ (passes two f says) = ones-lt n
+
+  pub cover-fits : n ≤ 64 → cover P n h r < 2 ^ 64
+  cover-fits most = omega (arith, cover-bits, pow-mono most)
+
+  pub cover-posts : (q : ℕ) → has (cover P n h r) q ≡ true → q < n
+  cover-posts q t = has-below (cover P n h r) n q cover-bits t
 
   pub cover-members : n ≤ 64 → below n (cover P n h r) ≡ members (cover P n h r)
   cover-members most = sym (below-within n 64 (cover P n h r) cover-bits most)
@@ -84,22 +92,17 @@ module _ (P : Rule) (n : ℕ) (h : History) (r : Bytes) (v : Valid n h) (g : gro
   pub cover-partner : kind r ≡ 2 → has (cover P n h r) (partner-post r) ≡ true
   cover-partner two = cover-has-partner two (partner-post r) (parted P v .own (partner-post r) (passed n h r g .pair two .inside))
 
-  -- it is the post's cluster from then on, or all posts
-  pub cover-cluster : (cluster P (r ∷ h) (post r) ≡ cover P n h r) ⊎ (cover P n h r ≡ all n)
+  -- it is the post's cluster from then on, unless it is all posts for want of a merge
+  pub cover-cluster : (cluster P (r ∷ h) (post r) ≡ cover P n h r) ⊎ (outcome P h r ≡ Across)
   cover-cluster = go (outcome P h r) refl
     where
-      go : (o : Outcome) → outcome P h r ≡ o → (cluster P (r ∷ h) (post r) ≡ cover-by n o (cluster P h) r) ⊎ (cover-by n o (cluster P h) r ≡ all n)
+      go : (o : Outcome) → outcome P h r ≡ o → (cluster P (r ∷ h) (post r) ≡ cover-by n o (cluster P h) r) ⊎ (o ≡ Across)
       go Plain e = inl (cluster-same P h r (post r) (λ m. let z : _≡_ {A = ℕ} 0 1 = cc in omega arith))
       go Merged e = inl (cluster-merged P h r (post r) e (to-merged (cluster P h) r (post r) (inl (parted P v .own (post r) (passed n h r g .inside)))))
       go Across e = inr refl
 
   pub cover-joined : (outcome P h r ≡ Across → ⊥) → cluster P (r ∷ h) (post r) ≡ cover P n h r
-  cover-joined ne = go (outcome P h r) refl
-    where
-      go : (o : Outcome) → outcome P h r ≡ o → cluster P (r ∷ h) (post r) ≡ cover-by n o (cluster P h) r
-      go Plain e = cluster-same P h r (post r) (λ m. let z : _≡_ {A = ℕ} 0 1 = cc in omega arith)
-      go Merged e = cluster-merged P h r (post r) e (to-merged (cluster P h) r (post r) (inl (parted P v .own (post r) (passed n h r g .inside))))
-      go Across e = absurd (ne e)
+  cover-joined ne = elim cover-cluster [ inl e ↦ e | inr a ↦ absurd (ne a) ]
 
 -- a receive from another cluster without a merge covers all posts
 pub cover-across : (P : Rule) (n : ℕ) (h : History) (r : Bytes) → outcome P h r ≡ Across → cover P n h r ≡ all n
@@ -127,6 +130,12 @@ cover-at-bits P {n} (taken {r = r} {h = h} v g) p k held = go p k (at r h p k he
     go _ _ new ih = rw cover-at-new (cover-bits P n h r v g)
     go p k (old w) ih = omega (arith, cover-at-old P n r h p k w, ih w)
 
+pub cover-at-fits : (P : Rule) {n : ℕ} {h : History} → n ≤ 64 → Valid n h → (p k : ℕ) → k ≤ count h p → cover-at P n h p k < 2 ^ 64
+cover-at-fits P most v p k held = omega (arith, cover-at-bits P v p k held, pow-mono most)
+
+pub cover-at-posts : (P : Rule) {n : ℕ} {h : History} → Valid n h → (p k q : ℕ) → k ≤ count h p → has (cover-at P n h p k) q ≡ true → q < n
+cover-at-posts P {n} {h} v p k q held t = has-below (cover-at P n h p k) n q (cover-at-bits P v p k held) t
+
 -- an event's own post is covered
 pub cover-at-own : (P : Rule) {n : ℕ} {h : History} → Valid n h → (p k : ℕ) → 0 < k → k ≤ count h p → has (cover-at P n h p k) p ≡ true
 cover-at-own P start p k some held = absurd (omega (arith, count-none p))
@@ -148,7 +157,7 @@ cover-inside P {n} (taken {r = r} {h = h} v g) p k held = go p k (at r h p k hel
     go : (p k : ℕ) → At r h p k → (k ≤ count h p → Inside h p k) → Inside (r ∷ h) p k
     go _ _ new ih = elim (cover-cluster P n h r v g) [
       | inl e ↦ inr (λ q t. subst (λ (m : ℕ). has m q ≡ true) (cover-at-new P n r h ∙ sym e) t)
-      | inr e ↦ inl (cover-at-new P n r h ∙ e)
+      | inr e ↦ inl (cover-at-new P n r h ∙ cover-across P n h r e)
     ]
     go p k (old w) ih = elim (ih w) [
       | inl e ↦ inl (cover-at-old P n r h p k w ∙ e)
@@ -185,6 +194,9 @@ latest-full-most P n (r ∷ h) p k held = go p k (at r h p k held) (λ p k w. la
       | inr ne ↦ omega (arith, latest-full-part P n r h ne, ih (post r) (count h (post r)) (omega arith))
     ]
     go p k (old w) ih = omega (arith, latest-full-old P n r h p k w, ih p k w)
+
+pub latest-full-zero : (P : Rule) (n : ℕ) (h : History) (p : ℕ) → latest-full P n h p 0 ≡ 0
+latest-full-zero P n h p = omega (arith, latest-full-most P n h p 0 (omega arith))
 
 -- it is full where there is one
 pub latest-full-covers : (P : Rule) (n : ℕ) (h : History) (p k : ℕ) → k ≤ count h p → 0 < latest-full P n h p k → cover-at P n h p (latest-full P n h p k) ≡ all n

@@ -1,30 +1,29 @@
 -- What is kept of events: entries by rank, what later records leave as it is, and that every entry comes back.
-use mathlib.Core.Bool.{Bool, true, false, cond, _&&_, _||_}
+use mathlib.Core.Bool.{Bool, true, false, _&&_, _||_}
 use mathlib.Core.List.{List, [], _∷_, _++_, map}
-use mathlib.Core.Logic.{_⊎_, inl, inr}
-use mathlib.Core.Path.{_≡_, refl, sym, ap, _∙_, subst, fun-ext}
-use Prim.Native.Nat.{ℕ, zero, suc, _^_, _≤_, _<_, max}
+use mathlib.Core.Logic.{inl, inr}
+use mathlib.Core.Path.{_≡_, refl, sym, ap, _∙_, fun-ext}
+use Prim.Native.Nat.{ℕ, zero, suc, _≤_, _<_, max}
 use native.Mathlib.Omega.{arith}
 use lib.Dec.{eqb}
-use lib.ListN.{length, getD}
-use lib.Pow.{pow-mono}
+use lib.ListN.{length}
 use Rattle.std.proofs.shelf.Lists.{length-map, getD-map, map-append}
-use Rattle.std.proofs.shelf.Tests.{cases-bool, cases-eq, cases-lt, eq-eqb, ne-eqb, eqb-true, cond-true, cond-false, and-parts, and-from, and-left, and-right, or-cases, or-from, both-ways, true≢false, false≢true}
-use Rattle.keeper.specs.Piles.{Stamp, entry-of}
-use Rattle.order.specs.History.{History, Valid, count, ground, is-of, kind-at, received}
+use Rattle.std.proofs.shelf.Tests.{cases-bool, cases-eq, eq-eqb, ne-eqb, eqb-true, cond-true, cond-false, and-parts, and-from, and-left, and-right, or-from, or-left}
+use Rattle.keeper.specs.Piles.{Stamp, entry-of, with-mark}
+use Rattle.order.specs.History.{History, Valid, count, ground, kind-at, received}
 use Rattle.order.specs.History.Valid.{start, taken}
 use Rattle.order.specs.Posts.{has, below, members, size}
 use Rattle.order.specs.Records.{Bytes, post, kind, number, partner-post, partner-number, receives, kind-named}
 use Rattle.order.specs.Vectors.{vec}
 use Rattle.order.specs.declared.event.Kind.{Kind}
-use Rattle.order.proofs.Held.{passed, count-none, count-own, count-grows}
-use Rattle.order.proofs.PostSets.{has-bound, rank-below, getD-rank, below-zero, below-with, below-without}
-use Rattle.order.proofs.Vectors.{when, unless, vec-none, vec-old, vec-self, vec-count, vec-closed}
+use Rattle.order.proofs.Held.{passed, count-grows}
+use Rattle.order.proofs.PostSets.{rank-below, getD-rank, below-zero, below-with, below-without}
+use Rattle.order.proofs.Vectors.{when, unless, vec-old, vec-self, vec-count, vec-closed}
 use Rattle.cluster.specs.Clusters.{all, cover, cover-at, latest-full}
 use Rattle.cluster.specs.Kept.{kept, largest, told, recovered}
 use Rattle.cluster.specs.Laws.{Comes-back}
 use Rattle.cluster.specs.Rules.{Rule}
-use Rattle.cluster.proofs.Covers.{has-each, cover-at-new, cover-at-old, cover-at-bits, latest-full-old, latest-full-most, latest-full-covers, latest-full-last, Source, source}
+use Rattle.cluster.proofs.Covers.{has-each, cover-at-new, cover-at-old, cover-at-posts, latest-full-old, latest-full-most, latest-full-covers, latest-full-last, Source, source}
 
 -- ---- a kept stamp
 
@@ -102,6 +101,32 @@ kept-old P n r h g p k held =
     let c = cover-at-old P n r h p k held in
     let entries : vec (r ∷ h) p k ≡ vec h p k = fun-ext (λ q. vec-old r h p k q held) in
     stamp-same (ap kind-named (kind-at-old n r h g p k held)) refl c (latest-full-old P n r h p k held) (λ i. map (entries i) (members (c i)))
+
+-- whether a record is a receive that names event k of post p
+abbrev pub Names : Bytes → ℕ → ℕ → Type 0
+Names r p k = (kind r ≡ 2) × ((partner-post r ≡ p) × (partner-number r ≡ k))
+
+pub received-named : (r : Bytes) (h : History) (p k : ℕ) → Names r p k → received (r ∷ h) p k ≡ true
+unfolding received
+received-named r h p k names = or-left _ _ (and-from _ _ (eq-eqb (kind r) 2 (names .0)) (and-from _ _ (eq-eqb (partner-post r) p (names .1 .0)) (eq-eqb (partner-number r) k (names .1 .1))))
+
+pub received-other : (r : Bytes) (h : History) (p k : ℕ) → (Names r p k → ⊥) → received (r ∷ h) p k ≡ received h p k
+unfolding received
+received-other r h p k none = elim (cases-bool (receives r && (eqb (partner-post r) p && eqb (partner-number r) k))) [
+  | inl t ↦
+      let two = and-parts (receives r) (eqb (partner-post r) p && eqb (partner-number r) k) t in
+      let names = and-parts (eqb (partner-post r) p) (eqb (partner-number r) k) (two .1) in
+      absurd (none (eqb-true (kind r) 2 (two .0), (eqb-true (partner-post r) p (names .0), eqb-true (partner-number r) k (names .1))))
+  | inr f ↦ ap (λ (b : Bool). b || received h p k) f
+]
+
+-- So a receive marks the stamp of the event that it names, and no other stamp changes.
+pub kept-marked : (P : Rule) (n : ℕ) (r : Bytes) (h : History) → ground n h r ≡ 0 → (p k : ℕ) → k ≤ count h p → Names r p k → kept P n (r ∷ h) p k ≡ with-mark (kept P n h p k)
+kept-marked P n r h g p k held names = kept-old P n r h g p k held ∙ ap (λ (m : Bool). marked-as m (kept P n h p k)) (received-named r h p k names)
+
+pub kept-same : (P : Rule) (n : ℕ) (r : Bytes) (h : History) → ground n h r ≡ 0 → (p k : ℕ) → k ≤ count h p → (Names r p k → ⊥) → kept P n (r ∷ h) p k ≡ kept P n h p k
+unfolding kept
+kept-same P n r h g p k held none = kept-old P n r h g p k held ∙ ap (λ (m : Bool). marked-as m (kept P n h p k)) (received-other r h p k none)
 
 -- The stamp of the newest event, not yet marked.
 pub kept-new : (P : Rule) (n : ℕ) (r : Bytes) (h : History) → Valid n h → ground n h r ≡ 0
@@ -221,8 +246,7 @@ module _ (P : Rule) (n : ℕ) (h : History) (most : n ≤ 64) (v : Valid n h) (q
       reached src =
           let x = src .teller in
           let m = vec h p k x in
-          let fits : c < 2 ^ 64 = omega (arith, cover-at-bits P v p k held, pow-mono most) in
-          let l = has-bound c x fits (src .covered) in
+          let l : x < 64 = omega (arith, cover-at-posts P v p k x held (src .covered)) in
           omega (
             arith,
             tells-at x l (src .covered),

@@ -2,3 +2,4 @@ pub mod Clusters
 pub mod Covers
 pub mod Kept
 pub mod Partitions
+pub mod Traffic

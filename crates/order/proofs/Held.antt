@@ -3,9 +3,10 @@ use mathlib.Core.Bool.{Bool, true, false, cond}
 use mathlib.Core.List.{List, [], _∷_}
 use mathlib.Core.Logic.{_⊎_, inl, inr, ⊎-elim}
 use mathlib.Core.Path.{_≡_, refl, sym, ap, _∙_, subst, subst₂}
-use Prim.Native.Nat.{ℕ, suc, _≤_, _<_}
+use Prim.Native.Nat.{ℕ, zero, suc, _+_, _*_, _≤_, _<_}
 use native.Mathlib.Omega.{arith}
 use lib.Dec.{eqb}
+use lib.ListN.{length}
 use Rattle.std.proofs.shelf.Tests.{cases-bool, eq-eqb, ne-eqb, eqb-true, eqb-false, cond-true, cond-false, cases-eq, cases-lt, and-parts}
 use Rattle.std.proofs.shelf.Ways.{tells}
 use Rattle.order.specs.History.{History, Taken, TakenFrom, Held, Valid, count, kind-at, received, is-of, partner-ground, ground}
@@ -112,3 +113,40 @@ kind-of-taken {n} {r = r} (taken {r = s} {h = h} v g) (earlier t) =
       | inl e ↦ let parts = and-parts _ _ e in absurd (not-newest s v g t (eqb-true _ _ (parts .0)) (eqb-true _ _ (parts .1)))
       | inr e ↦ cond-false _ _ _ e ∙ kind-of-taken v t
     ]
+
+-- how many events the posts below n have
+unfoldable pub total : History → ℕ → ℕ
+total h zero = 0
+total h (suc n) = total h n + count h n
+
+total-none : (n : ℕ) → total [] n ≡ 0
+unfolding total
+total-none zero = refl
+total-none (suc n) = omega (arith, total-none n, count-none n)
+
+total-past : (r : Bytes) (h : History) (n : ℕ) → n ≤ post r → total (r ∷ h) n ≡ total h n
+unfolding total
+total-past r h zero past = refl
+total-past r h (suc n) past = omega (arith, total-past r h n (omega arith), count-other r h n (λ e. omega arith))
+
+total-more : (r : Bytes) (h : History) (n : ℕ) → post r < n → total (r ∷ h) n ≡ suc (total h n)
+unfolding total
+total-more r h zero inside = absurd (omega arith)
+total-more r h (suc n) inside = elim (cases-eq (post r) n) [
+  | inl e ↦ omega (arith, total-past r h n (omega arith), count-own r h, ap (count (r ∷ h)) e, ap (count h) e)
+  | inr ne ↦ omega (arith, total-more r h n (omega arith), count-other r h n ne)
+]
+
+-- each record is an event of one of the n posts
+pub total-length : {n : ℕ} {h : History} → Valid n h → total h n ≡ length h
+total-length {n} start = total-none n
+total-length {n} (taken {r = r} {h = h} v g) = omega (arith, total-more r h n (passed n h r g .inside), total-length v)
+
+pub total-most : (h : History) (n m : ℕ) → ((p : ℕ) → p < n → count h p ≤ m) → total h n ≤ n * m
+unfolding total
+total-most h zero m each = omega arith
+total-most h (suc n) m each = omega (arith, total-most h n m (λ p l. each p (omega arith)), each n (omega arith))
+
+-- so with at most m events at each post there are at most n times m records
+pub length-most : {n : ℕ} {h : History} → Valid n h → (m : ℕ) → ((p : ℕ) → p < n → count h p ≤ m) → length h ≤ n * m
+length-most {n} {h} v m each = omega (arith, total-length v, total-most h n m each)

@@ -1,5 +1,6 @@
 // Why a call of a station is refused.
 ghost use mathlib.Core.Path.{_≡_};
+ghost use Rattle.station.specs.declared.faults.TakeFault.the-variants.{Record as IllFormed, Keeper as NoRoom};
 use cluster::outcome::Outcome;
 use cluster::outcome::OutcomeDebug;
 use cluster::outcome::OutcomePartialEq;
@@ -44,7 +45,7 @@ pub enum FeedFault {
 }
 
 pub impl From<RecordFault> for TakeFault as RecordIntoTake {
-    ghost converts = { λ e r. r ≡ TakeFault.Record e };
+    ghost converts = { λ e r. r ≡ IllFormed e };
 
     fn from(e: RecordFault) -> TakeFault {
         TakeFault::Record(e)
@@ -52,7 +53,7 @@ pub impl From<RecordFault> for TakeFault as RecordIntoTake {
 }
 
 pub impl From<KeeperFault> for TakeFault as KeeperIntoTake {
-    ghost converts = { λ e r. r ≡ TakeFault.Keeper e };
+    ghost converts = { λ e r. r ≡ NoRoom e };
 
     fn from(e: KeeperFault) -> TakeFault {
         TakeFault::Keeper(e)

@@ -34,19 +34,19 @@ impl<P: Policy, K: Keeper> Station<P, K> {
         Ok(record)
     }
 
-    // Whether a receive may name this partner.
-    fn judge_partner(&self, partner: Event) -> Result<(), TakeFault>
-        ensures { λ r. ⌜ ((h : History) (b : Bytes) → Stands rule sound meaning (now (self .entry)) h → partner b ≡ partner → partner .post < meaning (now (self .entry) .keeper) .posts → r ≡ partner-judged h b) ⌝ }
+    // Whether a receive may name this send.
+    fn judge_partner(&self, send: Event) -> Result<(), TakeFault>
+        ensures { λ r. ⌜ ((h : History) (b : Bytes) → Stands rule sound meaning (now (self .entry)) h → partner b ≡ send → send .post < meaning (now (self .entry) .keeper) .posts → r ≡ partner-judged h b) ⌝ }
     {
-        let count = self.keeper.count(partner.post)?;
-        if partner.number == 0 || partner.number > count {
+        let count = self.keeper.count(send.post)?;
+        if send.number == 0 || send.number > count {
             return Err(TakeFault::PartnerNotHeld);
         }
-        match self.keeper.kind(partner)? {
+        match self.keeper.kind(send)? {
             Kind::Send => {}
             _ => return Err(TakeFault::PartnerNotSend),
         }
-        if self.keeper.marked(partner)? {
+        if self.keeper.marked(send)? {
             return Err(TakeFault::AlreadyReceived);
         }
         Ok(())

@@ -1,0 +1,5 @@
+use Rattle.cluster.proofs.Traffic.{third-exchange}
+use Rattle.cluster.proofs.laws.third_exchange.Needs as need
+
+pub returns : need.returns
+returns c = third-exchange
