@@ -33,13 +33,17 @@ refusal g =
     (cond (eqb g 9) PartnerNotHeld
     (cond (eqb g 10) PartnerNotSend AlreadyReceived)))))))
 
+-- what a ground comes to: a refusal, or at 0 an answer
+unfoldable pub verdict : {A : Type 0} → ℕ → A → Result A TakeFault
+verdict g answer = elim (eqb g 0) [ true ↦ Ok answer | false ↦ Err (refusal g) ]
+
 -- what is found of a record before anything is decided on its stamp
 abbrev pub judged : ℕ → History → Bytes → Result Record TakeFault
-judged n h r = let g = ground n h r in elim (eqb g 0) [ true ↦ Ok (recordOf r) | false ↦ Err (refusal g) ]
+judged n h r = verdict (ground n h r) (recordOf r)
 
 -- what is found of a receive's partner
 abbrev pub partner-judged : History → Bytes → Result (Unit {0}) TakeFault
-partner-judged h r = let g = partner-ground h r in elim (eqb g 0) [ true ↦ Ok tt | false ↦ Err (refusal g) ]
+partner-judged h r = verdict (partner-ground h r) tt
 
 -- The answer of a take: the first ground that refuses the record, else a lack of space, else what the cluster rule
 -- makes of it and the size of its cover.

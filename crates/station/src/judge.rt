@@ -6,7 +6,6 @@ ghost use Rattle.order.specs.Records.{Bytes, partner};
 ghost use Rattle.station.specs.Stands.{Stands};
 ghost use Rattle.station.specs.Takes.{judged, partner-judged};
 use super::core::Station;
-use super::faults::KeeperIntoTake;
 use super::faults::RecordIntoTake;
 use super::faults::TakeFault;
 use cluster::policy::Policy;
@@ -24,8 +23,7 @@ impl<P: Policy, K: Keeper> Station<P, K> {
             return Err(TakeFault::Barred);
         }
         let record = Record::read(bytes, self.keeper.posts())?;
-        let count = self.keeper.count(record.event.post)?;
-        if record.event.number as u32 != count as u32 + 1 {
+        if record.event.number as u32 != self.count(record.event.post) as u32 + 1 {
             return Err(TakeFault::OutOfTurn);
         }
         if let Kind::Receive = record.kind {
@@ -38,15 +36,13 @@ impl<P: Policy, K: Keeper> Station<P, K> {
     fn judge_partner(&self, send: Event) -> Result<(), TakeFault>
         ensures { λ r. ⌜ ((h : History) (b : Bytes) → Stands rule sound meaning (now (self .entry)) h → partner b ≡ send → send .post < meaning (now (self .entry) .keeper) .posts → r ≡ partner-judged h b) ⌝ }
     {
-        let count = self.keeper.count(send.post)?;
-        if send.number == 0 || send.number > count {
+        if !self.holds(send) {
             return Err(TakeFault::PartnerNotHeld);
         }
-        match self.keeper.kind(send)? {
-            Kind::Send => {}
-            _ => return Err(TakeFault::PartnerNotSend),
+        if !self.is_send(send) {
+            return Err(TakeFault::PartnerNotSend);
         }
-        if self.keeper.marked(send)? {
+        if self.is_received(send) {
             return Err(TakeFault::AlreadyReceived);
         }
         Ok(())

@@ -3,3 +3,4 @@ pub mod asks;
 pub mod core;
 pub mod faults;
 mod judge;
+mod readers;
