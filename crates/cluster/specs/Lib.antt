@@ -5,3 +5,4 @@ pub mod Partitions
 pub mod Policies
 pub mod Rules
 pub mod Sets
+pub mod Traffic

@@ -1,4 +1,4 @@
-use Rattle.cluster.proofs.Traffic.{third-exchange}
+use Rattle.cluster.proofs.ThirdExchange.{third-exchange}
 use Rattle.cluster.proofs.laws.third_exchange.Needs as need
 
 pub returns : need.returns

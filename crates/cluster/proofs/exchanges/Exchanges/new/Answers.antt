@@ -1,0 +1,5 @@
+use Rattle.cluster.proofs.Traffic.{tells-none}
+use Rattle.cluster.proofs.exchanges.Exchanges.new.Needs as need
+
+pub returns : need.returns
+returns c = tells-none
