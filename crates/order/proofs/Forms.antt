@@ -13,7 +13,7 @@ use Rattle.std.specs.declared.result.Result.the-variants.{Err}
 use Rattle.std.proofs.shelf.Tests.{cases-order}
 use Rattle.std.proofs.shelf.Ways.{tells}
 use Rattle.order.specs.Reads.{kindOf, recordOf, ground, refused, tail-form}
-use Rattle.order.specs.Records.{Bytes, event, post, kind, spare, partner, partner-post, partner-number, form}
+use Rattle.order.specs.Records.{Bytes, code, event, post, kind, spare, partner, partner-post, partner-number, form}
 
 pub form-length : (n : ℕ) (r : Bytes) → (length r ≡ 8 → ⊥) → form n r ≡ 3
 unfolding form
@@ -26,6 +26,14 @@ form-kind n r l k = grind (arith, tells)
 pub form-post : (n : ℕ) (r : Bytes) → length r ≡ 8 → kind r ≤ 2 → n ≤ post r → form n r ≡ 5
 unfolding form
 form-post n r l k p = grind (arith, tells)
+
+-- the kind that is read has the byte for its code
+pub code-kindOf : (n : ℕ) → n ≤ 2 → code (kindOf n) ≡ n
+code-kindOf n l =
+    elim (cases-order n 1) [
+      | inl one ↦ rw one refl
+      | inr far ↦ elim far [ inl less ↦ let e : n ≡ 0 = omega arith in rw e refl | inr more ↦ let e : n ≡ 2 = omega arith in rw e refl ]
+    ]
 
 -- past these grounds the spare byte and the partner decide
 pub form-tail : (n : ℕ) (r : Bytes) → length r ≡ 8 → kind r ≤ 2 → post r < n → form n r ≡ tail-form (kindOf (kind r)) (spare r) (partner r) (post r) n
