@@ -12,8 +12,8 @@ use Rattle.std.specs.declared.result.Result.{Result}
 use Rattle.std.specs.declared.result.Result.the-variants.{Err}
 use Rattle.std.proofs.shelf.Tests.{cases-order}
 use Rattle.std.proofs.shelf.Ways.{tells}
-use Rattle.order.specs.Reads.{kindOf, recordOf, ground, refused, partner-form}
-use Rattle.order.specs.Records.{Bytes, event, post, kind, spare, partner, partner-post, partner-number, form}
+use Rattle.order.specs.Reads.{kindOf, recordOf, ground, refused, tail-form}
+use Rattle.order.specs.Records.{Bytes, code, event, post, kind, spare, partner, partner-post, partner-number, form}
 
 pub form-length : (n : ℕ) (r : Bytes) → (length r ≡ 8 → ⊥) → form n r ≡ 3
 unfolding form
@@ -27,15 +27,18 @@ pub form-post : (n : ℕ) (r : Bytes) → length r ≡ 8 → kind r ≤ 2 → n 
 unfolding form
 form-post n r l k p = grind (arith, tells)
 
-pub form-spare : (n : ℕ) (r : Bytes) → length r ≡ 8 → kind r ≤ 2 → post r < n → (spare r ≡ 0 → ⊥) → form n r ≡ 6
-unfolding form
-form-spare n r l k p s = grind (arith, tells)
+-- the kind that is read has the byte for its code
+pub code-kindOf : (n : ℕ) → n ≤ 2 → code (kindOf n) ≡ n
+code-kindOf n l =
+    elim (cases-order n 1) [
+      | inl one ↦ rw one refl
+      | inr far ↦ elim far [ inl less ↦ let e : n ≡ 0 = omega arith in rw e refl | inr more ↦ let e : n ≡ 2 = omega arith in rw e refl ]
+    ]
 
--- past the other grounds the partner decides
-pub form-partner
-    : (n : ℕ) (r : Bytes) → length r ≡ 8 → kind r ≤ 2 → post r < n → spare r ≡ 0 → form n r ≡ partner-form (kindOf (kind r)) (partner r) (post r) n
+-- past these grounds the spare byte and the partner decide
+pub form-tail : (n : ℕ) (r : Bytes) → length r ≡ 8 → kind r ≤ 2 → post r < n → form n r ≡ tail-form (kindOf (kind r)) (spare r) (partner r) (post r) n
 unfolding form
-form-partner n r l k p s =
+form-tail n r l k p =
     elim (cases-order (kind r) 1) [
       | inl one ↦ rw one (grind (arith, tells))
       | inr far ↦ elim far [
@@ -44,13 +47,13 @@ form-partner n r l k p s =
       ]
     ]
 
--- the same at the parts that were read: what refuses the partner refuses the form
+-- the same at the parts that were read: what refuses the tail refuses the form
 pub form-of-read
-    : (n : ℕ) (r : Bytes) (k : Kind) (e m : Event) (g : ℕ) → length r ≡ 8 → (kind r ≤ 2) × (k ≡ kindOf (kind r)) → e ≡ event r → e .post < n → spare r ≡ 0 → m ≡ partner r → g ≡ partner-form k m (e .post) n → g ≡ form n r
-form-of-read n r k e m g l c ee p s me h =
+    : (n : ℕ) (r : Bytes) (k : Kind) (e m : Event) (g : ℕ) → length r ≡ 8 → (kind r ≤ 2) × (k ≡ kindOf (kind r)) → e ≡ event r → e .post < n → m ≡ partner r → g ≡ tail-form k (spare r) m (e .post) n → g ≡ form n r
+form-of-read n r k e m g l c ee p me h =
     let own : post r < n = omega (arith, ap (λ (x : Event). x .post) ee) in
-    let at : partner-form k m (e .post) n ≡ partner-form (kindOf (kind r)) (partner r) (post r) n = rw (c .1, ee, me) refl in
-    h ∙ at ∙ sym (form-partner n r l (c .0) own s)
+    let at : tail-form k (spare r) m (e .post) n ≡ tail-form (kindOf (kind r)) (spare r) (partner r) (post r) n = rw (c .1, ee, me) refl in
+    h ∙ at ∙ sym (form-tail n r l (c .0) own)
 
 pub record-of-read
     : (r : Bytes) (k : Kind) (e m : Event) → k ≡ kindOf (kind r) → e ≡ event r → m ≡ partner r → _≡_ {A = Record} (record { event = e; kind = k; partner = m }) (recordOf r)

@@ -1,5 +1,5 @@
 -- Laws of sets of posts: who is a member after each change, when two sets are one, and what the list of the members holds.
-use mathlib.Core.Path.{_≡_, refl, sym, ap, subst, _∙_}
+use mathlib.Core.Path.{_≡_, refl, sym, ap, _∙_}
 use mathlib.Core.Bool.{Bool, true, false, cond, _||_, _&&_}
 use mathlib.Core.List.{List, [], _∷_, _++_}
 use mathlib.Core.Logic.{_⊎_, inl, inr}
@@ -10,7 +10,7 @@ use native.Mathlib.Numerals.{add-one, one-add}
 use native.Mathlib.Nat.{zero-div, div-self, div-eq-of-lt, mod-eq-of-lt, mod-one, pow-suc, sub-add-cancel}
 use lib.Dec.{eqb, ltb, lit<}
 use lib.ListN.{length, getD, take, drop}
-use lib.Bits.{bitAnd, bitOr, and-mask, or-shr, or-step, or-lt}
+use lib.Bits.{bitAnd, bitOr, and-mask, or-shr, or-step}
 use lib.Count.{ones, ones-cat}
 use lib.Pow.{pow-pos, pow-lt, pow-mono, pow-add, shl-shr, mod-pow-add, ones-split, high, ones-lt}
 use Rattle.std.proofs.shelf.Bits.{mod-below, one-shl}
@@ -95,9 +95,9 @@ has-ones n q = elim (cases-lt q n) [ inl l ↦ less l | inr g ↦ has-past (2 ^ 
 
 -- ---- the same, as the code computes it
 
-pub has-masked : (b q : ℕ) → q < 64 → eqb (bitAnd (b / 2 ^ (q % 64)) 1) 1 ≡ has b q
+pub has-masked : (b q : ℕ) → eqb (bitAnd (b / 2 ^ q) 1) 1 ≡ has b q
 unfolding has
-has-masked b q l = rw (mod-eq-of-lt l, and-mask (b / 2 ^ q) 1) refl
+has-masked b q = rw (and-mask (b / 2 ^ q) 1) refl
 
 pub has-all : (n q : ℕ) → 64 ≤ n → has 18446744073709551615 q ≡ (ltb q n && ltb q 64)
 has-all n q l = let e = has-ones 64 q in grind (arith, tells)
@@ -123,17 +123,22 @@ same-digits a b (suc n) h =
     let e = same-digits a b n (λ q l. h q (omega arith)) in
     ap (λ (m : ℕ). a % 2 ^ m) (sym (one-add n)) ∙ mod-pow-add a 1 n ∙ rw (d, e) (sym (mod-pow-add b 1 n)) ∙ ap (λ (m : ℕ). b % 2 ^ m) (one-add n)
 
-pub same-set : (a b : ℕ) → a < 2 ^ 64 → b < 2 ^ 64 → ((q : ℕ) → has a q ≡ has b q) → a ≡ b
-same-set a b k l h = sym (mod-eq-of-lt k) ∙ same-digits a b 64 (λ q _. h q) ∙ mod-eq-of-lt l
+below-power : (n : ℕ) → n < 2 ^ n
+below-power zero = lit< tt
+below-power (suc n) = omega (arith, below-power n, pow-suc 2 n)
+
+pub same-set : (a b : ℕ) → ((q : ℕ) → has a q ≡ has b q) → a ≡ b
+same-set a b h =
+    let k : a < 2 ^ (a + b) = omega (arith, below-power a, pow-mono {i = a} {j = a + b} (omega arith)) in
+    let l : b < 2 ^ (a + b) = omega (arith, below-power b, pow-mono {i = b} {j = a + b} (omega arith)) in
+    sym (mod-eq-of-lt k) ∙ same-digits a b (a + b) (λ q _. h q) ∙ mod-eq-of-lt l
 
 or-three : (x y z : Bool) → ((x || y) || z) ≡ (x || (y || z))
 or-three true y z = refl
 or-three false y z = refl
 
-pub union-assoc : (a b c : ℕ) → a < 2 ^ 64 → b < 2 ^ 64 → c < 2 ^ 64 → bitOr (bitOr a b) c ≡ bitOr a (bitOr b c)
-union-assoc a b c k l m =
-    same-set (bitOr (bitOr a b) c) (bitOr a (bitOr b c)) (or-lt 64 (bitOr a b) c (or-lt 64 a b k l) m) (or-lt 64 a (bitOr b c) k (or-lt 64 b c l m))
-    (λ q. simp has-union (or-three (has a q) (has b q) (has c q)))
+pub union-assoc : (a b c : ℕ) → bitOr (bitOr a b) c ≡ bitOr a (bitOr b c)
+union-assoc a b c = same-set (bitOr (bitOr a b) c) (bitOr a (bitOr b c)) (λ q. simp has-union (or-three (has a q) (has b q) (has c q)))
 
 -- ---- the members below n
 
@@ -309,7 +314,7 @@ from-without q b h = ap (λ (xs : List ℕ). drop (length xs) (members b)) (sym 
 -- What has come, and then what is still to come, are what was to come at the start.
 pub walked : (xs : List ℕ) (s t : Members) → yields Steps s xs t → rest s ≡ xs ++ rest t
 walked [] s t y = ap rest y
-walked (x ∷ xs) s t y = y .1 ∙ ap (λ (ys : List ℕ). x ∷ ys) (walked xs (y .0) t (y .2))
+walked (x ∷ xs) s t y = y .1 .least ∙ ap (λ (ys : List ℕ). x ∷ ys) (walked xs (y .0) t (y .2))
 
 -- All of the members have come when none is left.
 pub walked-all : (xs : List ℕ) (s t : Members) (b : ℕ) → rest s ≡ members b → yields Steps s xs t → rest t ≡ [] → xs ≡ members b

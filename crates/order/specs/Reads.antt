@@ -41,3 +41,7 @@ abbrev pub partner-form : Kind → Event → ℕ → ℕ → ℕ
 partner-form Local e p n = blank-form e
 partner-form Send e p n = blank-form e
 partner-form Receive e p n = cond (ltb (e .post) n && not (eqb (e .post) p)) 0 7
+
+-- the same of what stands past the number: the spare byte and the partner
+abbrev pub tail-form : Kind → ℕ → Event → ℕ → ℕ → ℕ
+tail-form k spare e p n = cond (eqb spare 0) (partner-form k e p n) 6

@@ -1,6 +1,6 @@
 -- A record is eight bytes: post, kind, number (two bytes), partner post, spare, partner number (two bytes).
 -- Two-byte numbers have the high byte first.
-use mathlib.Core.Bool.{Bool, true, false, cond, not, _||_, _&&_}
+use mathlib.Core.Bool.{Bool, cond, not, _||_, _&&_}
 use mathlib.Core.List.{List}
 use Prim.Native.Nat.{ℕ, _+_, _*_}
 use lib.Dec.{eqb, leb, ltb}

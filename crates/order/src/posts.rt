@@ -1,9 +1,9 @@
 // Sets of posts. A kiln has at most 64 posts, so a set is the bits of one `u64`.
-ghost use Prim.Native.Nat.{ℕ, _^_};
+ghost use Prim.Native.Nat.{ℕ, _<_, _^_};
 ghost use lib.Bits.{bitOr};
 ghost use lib.Dec.{eqb, ltb};
 ghost use lib.ListN.{length};
-ghost use mathlib.Core.Bool.{cond, _||_, _&&_};
+ghost use mathlib.Core.Bool.{true, cond, _||_, _&&_};
 ghost use mathlib.Core.Path.{_≡_};
 ghost use Rattle.order.specs.Posts.{has, below, members, size};
 ghost use Rattle.order.specs.Walk.{rest, Steps};
@@ -36,10 +36,11 @@ impl PostSet {
     }
 
     pub fn contains(self, post: u8) -> bool
-        ensures { λ r. ⌜ r ≡ has (self .bits) post ⌝ }
+        ensures value { λ r. ⌜ r ≡ has (self .bits) post ⌝ }
+        ensures bound { λ r. ⌜ (r ≡ true → post < 64) ⌝ }
     {
-        let shifted = self.bits >> (post % MAX_POSTS);
-        post < MAX_POSTS && shifted & 1 == 1
+        let bits = self.bits;
+        post < MAX_POSTS && (bits >> post) & 1 == 1
     }
 
     // No set has a post from 64 on: there the set stays as it is.

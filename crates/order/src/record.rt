@@ -4,7 +4,7 @@ ghost use lib.ListN.{length, getD};
 ghost use mathlib.Core.Path.{_≡_};
 ghost use Rattle.std.specs.Results.{Cases};
 ghost use Rattle.std.specs.Vec.{made};
-ghost use Rattle.order.specs.Reads.{ground, kindOf, recordOf, refused, partner-form};
+ghost use Rattle.order.specs.Reads.{ground, kindOf, recordOf, refused, tail-form};
 ghost use Rattle.order.specs.Records.{form, two-bytes};
 use crate::event::Event;
 use crate::event::EventDebug;
@@ -66,11 +66,8 @@ impl Record {
         if event.post >= posts {
             return Err(RecordFault::UnknownPost);
         }
-        if bytes[5] != 0 {
-            return Err(RecordFault::StrayBytes);
-        }
         let partner = event_at(bytes, 4);
-        check_partner(kind, partner, event.post, posts)?;
+        check_tail(kind, bytes[5], partner, event.post, posts)?;
         Ok(Record {
             event,
             kind,
@@ -101,10 +98,13 @@ fn event_at(bytes: &[u8], place: usize) -> Event
     }
 }
 
-// Whether an event of this kind at `post`, one of `posts`, may have this partner.
-fn check_partner(kind: Kind, partner: Event, post: u8, posts: u8) -> Result<(), RecordFault>
-    ensures { λ r. ⌜ refused r ≡ partner-form kind partner post posts ⌝ }
+// Whether an event of this kind at `post`, one of `posts`, may have this spare byte and this partner.
+fn check_tail(kind: Kind, spare: u8, partner: Event, post: u8, posts: u8) -> Result<(), RecordFault>
+    ensures { λ r. ⌜ refused r ≡ tail-form kind spare partner post posts ⌝ }
 {
+    if spare != 0 {
+        return Err(RecordFault::StrayBytes);
+    }
     match kind {
         Kind::Local | Kind::Send => {
             if partner.post != 0 || partner.number != 0 {

@@ -5,7 +5,7 @@ use Rattle.order.proofs.posts.MembersIterator.next.Given as given
 
 -- no member has been passed over
 abbrev pub Inv-loop-self : given.InvT-loop-self
-Inv-loop-self l = rest (l .self) ≡ rest (l .entry .self)
+Inv-loop-self l = (rest (l .self) ≡ rest (l .entry .self)) × (l .self .set ≡ l .entry .self .set)
 
 abbrev pub μ-loop-self : given.MeasureT-loop-self
 μ-loop-self l = 64 - l .self .next

@@ -1,11 +1,10 @@
 use mathlib.Core.Path.{_≡_, sym, ap, _∙_}
 use native.Mathlib.Omega.{arith}
-use Prim.Native.Nat.{_<_, _≤_}
 use Rattle.std.proofs.shelf.Results.{err-from-errBy, made-from-err}
 use Rattle.order.specs.declared.«record».RecordFault.the-variants.{UnknownKind}
-use Rattle.order.specs.Reads.{recordOf}
+use Rattle.order.specs.Reads.{ground, recordOf}
 use Rattle.order.specs.Records.{post, kind, spare, number, partner-post, partner-number}
-use Rattle.order.proofs.Forms.{form-length, form-kind, form-post, form-spare, form-of-read, record-of-read, refused-by}
+use Rattle.order.proofs.Forms.{form-length, form-kind, form-post, form-of-read, record-of-read, refused-by}
 use Rattle.order.proofs.record.Record.read.Needs as need
 
 pub returns-then-bytes-ne-RECORD-LEN : need.returns-then-bytes-ne-RECORD-LEN
@@ -31,27 +30,17 @@ returns-then-event-posts c =
     let p = ap (λ e. e .post) (c .event-at-event .ensures) in
     record { ground = sym (form-post (c .args .posts) (c .args .bytes .now) (c .if-bytes-ne-RECORD-LEN .left) (k .0) (omega arith)); value = tt }
 
-pub returns-then-bytes-ne0 : need.returns-then-bytes-ne0
-unfolding kind post spare
-returns-then-bytes-ne0 c =
-    let k = c .in-Continue-kind .ensures tt in
-    let p = ap (λ e. e .post) (c .event-at-event .ensures) in
-    record {
-      ground = sym (form-spare (c .args .posts) (c .args .bytes .now) (c .if-bytes-ne-RECORD-LEN .left) (k .0) (omega arith) (c .if-bytes-ne0 .taken));
-      value = tt;
-    }
-
-pub returns-in-Break-check-partner : need.returns-in-Break-check-partner
+pub returns-in-Break-check-tail : need.returns-in-Break-check-tail
 unfolding post kind spare number partner-post partner-number
-returns-in-Break-check-partner c =
-    let p = err-from-errBy (c .from-residual-in-Break-check-partner .result) (c .from-residual-in-Break-check-partner .ensures .1) in
+returns-in-Break-check-tail c =
+    let p = err-from-errBy (c .from-residual-in-Break-check-tail .result) (c .from-residual-in-Break-check-tail .ensures .1) in
     record {
       ground =
-          refused-by (c .from-residual-in-Break-check-partner .result) (p .0) (c .in-Break-check-partner .field-0 .0) _ (p .1) (p .2)
-          (form-of-read (c .args .posts) (c .args .bytes .now) (c .in-Continue-kind .kind) (c .event-at-event .result) (c .event-at-partner .result) _
-          (c .if-bytes-ne-RECORD-LEN .left) (c .in-Continue-kind .ensures tt) (c .event-at-event .ensures) (c .if-event-posts .left) (c .if-bytes-ne0 .left)
-          (c .event-at-partner .ensures) (c .in-Break-check-partner .ensures tt));
-      value = made-from-err (c .from-residual-in-Break-check-partner .result) (λ t. t ≡ recordOf (c .args .bytes .now)) (c .from-residual-in-Break-check-partner .ensures .0);
+          refused-by (c .from-residual-in-Break-check-tail .result) (p .0) (c .in-Break-check-tail .field-0 .0) _ (p .1) (p .2)
+          (form-of-read (c .args .posts) (c .args .bytes .now) (c .in-Continue-kind .kind) (c .event-at-event .result) (c .event-at-partner .result) (ground (c .in-Break-check-tail .field-0 .0))
+          (c .if-bytes-ne-RECORD-LEN .left) (c .in-Continue-kind .ensures tt) (c .event-at-event .ensures) (c .if-event-posts .left)
+          (c .event-at-partner .ensures) (c .in-Break-check-tail .ensures tt));
+      value = made-from-err (c .from-residual-in-Break-check-tail .result) (λ t. t ≡ recordOf (c .args .bytes .now)) (c .from-residual-in-Break-check-tail .ensures .0);
     }
 
 pub returns : need.returns
@@ -60,8 +49,8 @@ returns c =
     record {
       ground =
           form-of-read (c .args .posts) (c .args .bytes .now) (c .in-Continue-kind .kind) (c .event-at-event .result) (c .event-at-partner .result) _
-          (c .if-bytes-ne-RECORD-LEN .left) (c .in-Continue-kind .ensures tt) (c .event-at-event .ensures) (c .if-event-posts .left) (c .if-bytes-ne0 .left)
-          (c .event-at-partner .ensures) (c .in-Continue-check-partner .ensures tt);
+          (c .if-bytes-ne-RECORD-LEN .left) (c .in-Continue-kind .ensures tt) (c .event-at-event .ensures) (c .if-event-posts .left)
+          (c .event-at-partner .ensures) (c .in-Continue-check-tail .ensures tt);
       value =
           record-of-read (c .args .bytes .now) (c .in-Continue-kind .kind) (c .event-at-event .result) (c .event-at-partner .result)
           (c .in-Continue-kind .ensures tt .1) (c .event-at-event .ensures) (c .event-at-partner .ensures);
