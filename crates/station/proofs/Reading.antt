@@ -52,12 +52,12 @@ sends Receive = false
 
 pub sends-named : (code : ℕ) → sends (kind-named code) ≡ eqb code 1
 sends-named code = elim (cases-eq code 0) [
-    inl e ↦ ap sends (cond-true _ _ _ (eq-eqb code 0 e)) ∙ sym (ne-eqb code 1 (omega arith))
+  | inl e ↦ ap sends (cond-true _ _ _ (eq-eqb code 0 e)) ∙ sym (ne-eqb code 1 (omega arith))
   | inr ne ↦ ap sends (cond-false _ _ _ (ne-eqb code 0 ne)) ∙ elim (cases-eq code 1) [
-        inl e ↦ ap sends (cond-true _ _ _ (eq-eqb code 1 e)) ∙ sym (eq-eqb code 1 e)
-      | inr no-send ↦ ap sends (cond-false _ _ _ (ne-eqb code 1 no-send)) ∙ sym (ne-eqb code 1 no-send)
-      ]
+    | inl e ↦ ap sends (cond-true _ _ _ (eq-eqb code 1 e)) ∙ sym (eq-eqb code 1 e)
+    | inr no-send ↦ ap sends (cond-false _ _ _ (ne-eqb code 1 no-send)) ∙ sym (ne-eqb code 1 no-send)
   ]
+]
 
 module _ {P K : Type 0} (rule : P → Rule) (sound : K → Type 0) (meaning : K → Pile) (s : Station P K) (h : History) (st : Stands rule sound meaning s h) where
   -- a question about a held event is answered from its kept stamp

@@ -1,4 +1,5 @@
 pub mod Asks
+pub mod Drafts
 pub mod Faults
 pub mod Feeds
 pub mod Stands

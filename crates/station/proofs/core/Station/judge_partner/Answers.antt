@@ -26,8 +26,8 @@ returns-then-not-is-send g c h b st named inside =
     let there = sym (c .holds .ensures h st) ∙ c .if-not-holds .left in
     let other = sym (c .is-send .ensures h st there) ∙ c .if-not-is-send .taken in
     sym (ap (λ (x : ℕ). verdict x tt) (ground-10 h b
-      (at (λ (e : Event). held h (e .post) (e .number) ≡ true) named (held-known _ h (c .args .send) there))
-      (at (λ (e : Event). eqb (kind-at h (e .post) (e .number)) 1 ≡ false) named other)))
+    (at (λ (e : Event). held h (e .post) (e .number) ≡ true) named (held-known _ h (c .args .send) there))
+    (at (λ (e : Event). eqb (kind-at h (e .post) (e .number)) 1 ≡ false) named other)))
 
 pub returns-then-is-received : need.returns-then-is-received
 unfolding verdict
@@ -36,9 +36,9 @@ returns-then-is-received g c h b st named inside =
     let send = sym (c .is-send .ensures h st there) ∙ c .if-not-is-send .left in
     let gone = sym (c .is-received .ensures h st there) ∙ c .if-is-received .taken in
     sym (ap (λ (x : ℕ). verdict x tt) (ground-11 h b
-      (at (λ (e : Event). held h (e .post) (e .number) ≡ true) named (held-known _ h (c .args .send) there))
-      (at (λ (e : Event). eqb (kind-at h (e .post) (e .number)) 1 ≡ true) named send)
-      (at (λ (e : Event). received h (e .post) (e .number) ≡ true) named gone)))
+    (at (λ (e : Event). held h (e .post) (e .number) ≡ true) named (held-known _ h (c .args .send) there))
+    (at (λ (e : Event). eqb (kind-at h (e .post) (e .number)) 1 ≡ true) named send)
+    (at (λ (e : Event). received h (e .post) (e .number) ≡ true) named gone)))
 
 pub returns : need.returns
 unfolding verdict
@@ -47,6 +47,6 @@ returns g c h b st named inside =
     let send = sym (c .is-send .ensures h st there) ∙ c .if-not-is-send .left in
     let fresh = sym (c .is-received .ensures h st there) ∙ c .if-is-received .left in
     sym (ap (λ (x : ℕ). verdict x tt) (ground-0 h b
-      (at (λ (e : Event). held h (e .post) (e .number) ≡ true) named (held-known _ h (c .args .send) there))
-      (at (λ (e : Event). eqb (kind-at h (e .post) (e .number)) 1 ≡ true) named send)
-      (at (λ (e : Event). received h (e .post) (e .number) ≡ false) named fresh)))
+    (at (λ (e : Event). held h (e .post) (e .number) ≡ true) named (held-known _ h (c .args .send) there))
+    (at (λ (e : Event). eqb (kind-at h (e .post) (e .number)) 1 ≡ true) named send)
+    (at (λ (e : Event). received h (e .post) (e .number) ≡ false) named fresh)))

@@ -1,0 +1,28 @@
+// What is decided of a record before anything changes.
+use cluster::outcome::Outcome;
+use keeper::admit::Header;
+use order::posts::PostSet;
+use order::record::Record;
+
+// What the cluster rule says of a record.
+#[derive(Clone, Copy)]
+pub struct Ruling {
+    pub outcome: Outcome,
+    pub cover: PostSet,
+}
+
+// The first `len` are a vector's entries for the posts of a cover, ascending.
+#[derive(Clone, Copy)]
+pub struct Cut {
+    pub entries: [u16; 64],
+    pub len: u8,
+}
+
+// A record with the stamp that it is to have.
+#[derive(Clone, Copy)]
+pub struct Draft {
+    pub record: Record,
+    pub outcome: Outcome,
+    pub header: Header,
+    pub cut: Cut,
+}
