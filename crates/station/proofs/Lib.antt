@@ -1,2 +1,4 @@
+pub mod Entered
+pub mod Held
 pub mod Judged
 pub mod Reading

@@ -2,23 +2,27 @@
 use mathlib.Core.Bool.{Bool, true, false, _&&_}
 use mathlib.Core.Logic.{inl, inr}
 use mathlib.Core.Path.{_≡_, refl, sym, ap, _∙_, subst}
-use Prim.Native.Nat.{ℕ, _≤_, _<_}
+use Prim.Native.Nat.{ℕ, _-_, _^_, _*_, _≤_, _<_}
 use native.Mathlib.Omega.{arith}
 use lib.Dec.{eqb, ltb, leb}
+use lib.ListN.{length}
 use Rattle.cluster.specs.Kept.{kept}
 use Rattle.cluster.specs.Rules.{Rule}
 use Rattle.keeper.specs.Answers.{ask-stamp, ask-kind}
 use Rattle.keeper.specs.Piles.{Pile, Stamp}
 use Rattle.keeper.specs.declared.fault.KeeperFault.{KeeperFault}
+use Rattle.order.proofs.Held.{length-most}
 use Rattle.order.specs.History.{History, count, held, kind-at}
 use Rattle.order.specs.Records.{kind-named}
 use Rattle.order.specs.declared.event.Event.{Event}
 use Rattle.order.specs.declared.event.Kind.{Kind}
 use Rattle.order.specs.declared.event.Kind.the-variants.{Local, Send, Receive}
+use Rattle.std.proofs.shelf.Bits.{mul-le}
 use Rattle.std.proofs.shelf.Tests.{and-parts, and-from, cond-true, cond-false, cases-eq, ltb-true, leb-true, lt-ltb, le-leb, eq-eqb, ne-eqb}
 use Rattle.std.specs.declared.result.Result.{Result}
 use Rattle.std.specs.declared.result.Result.the-variants.{Ok}
 use Rattle.station.specs.Asks.{knows}
+use Rattle.station.specs.Entries.{Holds}
 use Rattle.station.specs.Stands.{Stands}
 use Rattle.station.specs.declared.core.Station.{Station}
 
@@ -78,3 +82,11 @@ module _ {P K : Type 0} (rule : P → Rule) (sound : K → Type 0) (meaning : K 
       let same : Ok kind ≡ Ok (kind-named (kind-at h (e .post) (e .number))) = read ∙ asked e (λ s. Ok (s .kind)) k in
       let is : kind ≡ kind-named (kind-at h (e .post) (e .number)) = cc in
       ap sends is ∙ sends-named (kind-at h (e .post) (e .number))
+
+  pub stands-holds : Holds (rule (s .policy)) (meaning (s .keeper) .posts) (meaning (s .keeper)) h
+  stands-holds = record { counts = st .counts; stamps = st .stamps }
+
+  pub history-short : length h < 2 ^ 32 - 1
+  history-short =
+      let n = meaning (s .keeper) .posts in
+      omega (arith, length-most (st .valid) 65535 (st .small), mul-le n 65535 64 65535 (st .few) (omega arith))

@@ -1,5 +1,6 @@
 pub mod Asks
 pub mod Drafts
+pub mod Entries
 pub mod Faults
 pub mod Feeds
 pub mod Stands

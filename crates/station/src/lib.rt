@@ -2,9 +2,8 @@
 pub mod asks;
 pub mod core;
 pub mod drafts;
+mod entering;
 pub mod faults;
 mod judge;
 mod readers;
-mod stamping;
 mod taking;
-mod vectors;
