@@ -2,3 +2,4 @@ pub mod Entered
 pub mod Held
 pub mod Judged
 pub mod Reading
+pub mod Standing
