@@ -51,32 +51,34 @@ impl<P: Policy, K: Keeper> Station<P, K> {
         Vector { entries }
     }
 
+    // The number of a post's latest full event up to its event `number`, or 0 where it has none.
+    pub fn latest_full(&self, post: u8, number: u16) -> u16
+        ensures { λ r. ⌜ ((h : History) → Stands rule sound meaning (now (self .entry)) h → post < meaning (now (self .entry) .keeper) .posts → number ≤ count-of h post → r ≡ latest-full (rule (now (self .entry) .policy)) (meaning (now (self .entry) .keeper) .posts) h post number) ⌝ }
+    {
+        match self.keeper.full(Event { post, number }) {
+            Ok(full) => full,
+            Err(_) => 0,
+        }
+    }
+
     // The vector of the latest full event of a post up to its event `number`, all of which is kept.
     fn latest_full_vector(&self, post: u8, number: u16) -> Vector
         ensures len { λ r. ⌜ length (r .entries) ≡ 64 ⌝ }
         ensures full { λ r. ⌜ ((h : History) → Stands rule sound meaning (now (self .entry)) h → post < meaning (now (self .entry) .keeper) .posts → number ≤ count-of h post → (q : ℕ) → at r q ≡ vec h post (latest-full (rule (now (self .entry) .policy)) (meaning (now (self .entry) .keeper) .posts) h post number) q) ⌝ }
     {
-        if number == 0 {
+        let full = self.latest_full(post, number);
+        if full == 0 {
             return nothing();
         }
-        match self.keeper.full(Event { post, number }) {
-            Ok(full) if full > 0 => {
-                let posts = PostSet::first(self.keeper.posts());
-                self.kept_entries(Event { post, number: full }, posts)
-            }
-            _ => nothing(),
-        }
+        let posts = PostSet::first(self.keeper.posts());
+        self.kept_entries(Event { post, number: full }, posts)
     }
 
-    // The full vector of a held event; zeros for number 0, before a post's first event.
-    pub fn vector(&self, event: Event) -> Vector
+    // The full vector of a held event: each entry that its cover lacks is one that a full event of a covered post has.
+    fn full_vector(&self, event: Event, cover: PostSet) -> Vector
         ensures len { λ r. ⌜ length (r .entries) ≡ 64 ⌝ }
-        ensures full { λ r. ⌜ ((h : History) → Stands rule sound meaning (now (self .entry)) h → event .post < meaning (now (self .entry) .keeper) .posts → event .number ≤ count-of h (event .post) → (q : ℕ) → at r q ≡ vec h (event .post) (event .number) q) ⌝ }
+        ensures full { λ r. ⌜ ((h : History) → Stands rule sound meaning (now (self .entry)) h → knows (meaning (now (self .entry) .keeper) .posts) h event ≡ true → cover .bits ≡ cover-at (rule (now (self .entry) .policy)) (meaning (now (self .entry) .keeper) .posts) h (event .post) (event .number) → (q : ℕ) → at r q ≡ vec h (event .post) (event .number) q) ⌝ }
     {
-        let cover = match self.keeper.cover(event) {
-            Ok(cover) => cover,
-            Err(_) => PostSet::empty(),
-        };
         let own = self.kept_entries(event, cover);
         let mut all = Running::new(own);
         for post in 0..MAX_POSTS {
@@ -85,6 +87,17 @@ impl<P: Policy, K: Keeper> Station<P, K> {
             }
         }
         all.value()
+    }
+
+    // The full vector of a held event; zeros for number 0, before a post's first event.
+    pub fn vector(&self, event: Event) -> Vector
+        ensures len { λ r. ⌜ length (r .entries) ≡ 64 ⌝ }
+        ensures full { λ r. ⌜ ((h : History) → Stands rule sound meaning (now (self .entry)) h → event .post < meaning (now (self .entry) .keeper) .posts → event .number ≤ count-of h (event .post) → (q : ℕ) → at r q ≡ vec h (event .post) (event .number) q) ⌝ }
+    {
+        match self.keeper.cover(event) {
+            Ok(cover) => self.full_vector(event, cover),
+            Err(_) => nothing(),
+        }
     }
 
     // The full vector of the event that a record reports next: all that its post's preceding event and its send
