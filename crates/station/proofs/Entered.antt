@@ -64,15 +64,17 @@ module _ (P : Rule) (n : ℕ) (h : History) (b : Bytes) (g : ground n h b ≡ 0)
     where
       ok : Passed n h b
       ok = passed n h b g
+
       both : bitOr (clusters was (post b)) (clusters was (partner-post b)) ≡ merged (cluster P h) b
       both = ap₂ bitOr (w .grouped (post b) (ok .inside)) (w .grouped (partner-post b) (ok .pair (merging P h b m) .inside))
+
       go : (p : ℕ) → p < n → clusters is p ≡ cluster P (b ∷ h) p
       go p inside =
           so p ∙ ap₂ (λ (u c : ℕ). cond (has u p) u c) both (w .grouped p inside)
           ∙ elim (cases-bool (has (merged (cluster P h) b) p)) [
-              inl t ↦ cond-true _ _ _ t ∙ sym (cluster-merged P h b p m t)
+            | inl t ↦ cond-true _ _ _ t ∙ sym (cluster-merged P h b p m t)
             | inr f ↦ cond-false _ _ _ f ∙ sym (cluster-apart P h b p m f)
-            ]
+          ]
 
 -- The pile.
 
@@ -103,7 +105,7 @@ module _ (P : Rule) (n : ℕ) (h : History) (b : Bytes) (v : Valid n h) (few : n
   admitted =
       let inside : post b < m .posts = omega (arith, posts, passed n h b g .inside) in
       let fit : fits (m .posts) (cover P n h b) (size (cover P n h b)) ≡ true
-            = and-from _ _ (eq-eqb _ _ (ap (λ (x : ℕ). length (below x (cover P n h b))) posts ∙ cover-size P n h b v g few)) (eq-eqb _ _ refl) in
+      = and-from _ _ (eq-eqb _ _ (ap (λ (x : ℕ). length (below x (cover P n h b))) posts ∙ cover-size P n h b v g few)) (eq-eqb _ _ refl) in
       let room : held-count m (post b) < 65535 = omega (arith, held .counts (post b) (passed n h b g .inside), next) in
       (λ i. ask-append m (same-post i) (dr .cover-is i) (entries-count i))
       ∙ cond-true _ _ _ (lt-ltb (post b) (m .posts) inside) ∙ cond-true _ _ _ fit ∙ cond-true _ _ _ (lt-ltb (held-count m (post b)) 65535 room)
@@ -121,7 +123,7 @@ module _ (P : Rule) (n : ℕ) (h : History) (b : Bytes) (v : Valid n h) (few : n
 
       paid : Pays (post b) (price (size (cover P n h b))) (m .space) (is .space)
       paid = subst (λ (x : ℕ). Pays (post b) (price x) (m .space) (is .space)) entries-count
-        (record { own = appended .paid; falls = appended .falls; at-most = appended .at-most })
+          (record { own = appended .paid; falls = appended .falls; at-most = appended .at-most })
 
       pub stamped-plain : (kind b ≡ 2 → ⊥) → (table : Exchanges) → Tells table (b ∷ h) → Stamped P n h b m is table
       stamped-plain ne table tells = record {

@@ -3,3 +3,4 @@ pub mod Held
 pub mod Judged
 pub mod Reading
 pub mod Standing
+pub mod VectorReading

@@ -38,26 +38,26 @@ module _ (P : Rule) (n : ℕ) (h : History) (b : Bytes) (space : ℕ) (g : groun
 
   open-ground : takes P n h space b
       ≡ (elim (leb (price (size (cover P n h b))) space) as (λ _. Result Taken TakeFault) [
-          true ↦ Ok taken-as
+        | true ↦ Ok taken-as
         | false ↦ Err (Keeper (NoSpace (price (size (cover P n h b))) space))
-        ])
+      ])
   unfolding taken-as
   open-ground = when (eqb (ground n h b) 0) _ _ (eq-eqb (ground n h b) 0 g)
 
   pub takes-taken : Ok tt ≡ room-for P n h b space → takes P n h space b ≡ Ok (record { outcome = outcome P h b; entries = size (cover P n h b) })
   unfolding taken-as room-for
   takes-taken e = elim (cases-bool (leb (price (size (cover P n h b))) space)) [
-      inl t ↦ open-ground ∙ when _ _ _ t
+    | inl t ↦ open-ground ∙ when _ _ _ t
     | inr f ↦ let no-room = e ∙ cond-false _ _ _ f in let z : _≡_ {A = ℕ} 0 1 = cc in absurd (omega arith)
-    ]
+  ]
 
   pub takes-refused : (f : KeeperFault) → Err f ≡ room-for P n h b space → Err (Keeper f) ≡ takes P n h space b
   unfolding taken-as room-for
   takes-refused f e = elim (cases-bool (leb (price (size (cover P n h b))) space)) [
-      inl t ↦ let room = e ∙ cond-true _ _ _ t in let z : _≡_ {A = ℕ} 0 1 = cc in absurd (omega arith)
+    | inl t ↦ let room = e ∙ cond-true _ _ _ t in let z : _≡_ {A = ℕ} 0 1 = cc in absurd (omega arith)
     | inr u ↦ let lack = e ∙ cond-false _ _ _ u in let same : f ≡ NoSpace (price (size (cover P n h b))) space = cc in
         ap (λ (x : KeeperFault). Err (Keeper x)) same ∙ sym (open-ground ∙ unless _ _ _ u)
-    ]
+  ]
 
 -- Standing, by facts over a rule and a number of posts.
 
@@ -68,19 +68,19 @@ module _ {P K : Type 0} (rule : P → Rule) (sound : K → Type 0) (meaning : K 
       → Stands rule sound meaning s h
   stands-by s h R n same-rule same-posts bar keeps tells =
       subst₂ (λ (R : Rule) (n : ℕ). n ≤ 64 → Valid n h → Holds R n (meaning (s .keeper)) h → ((p : ℕ) → p < n → count h p ≤ 65535) → Groups R n h (s .partition) → Stands rule sound meaning s h)
-        same-rule same-posts
-        (λ few valid holds small groups. record {
-          open-to-all = bar;
-          keeps = keeps;
-          few = few;
-          valid = valid;
-          counts = holds .counts;
-          small = small;
-          stamps = holds .stamps;
-          parts = groups .parts;
-          exchanged = tells;
-          grouped = groups .grouped;
-        })
+      same-rule same-posts
+      (λ few valid holds small groups. record {
+        open-to-all = bar;
+        keeps = keeps;
+        few = few;
+        valid = valid;
+        counts = holds .counts;
+        small = small;
+        stamps = holds .stamps;
+        parts = groups .parts;
+        exchanged = tells;
+        grouped = groups .grouped;
+      })
 
   module _ (s is : Station P K) (h : History) (b : Bytes) (st : Stands rule sound meaning s h) (g : ground (meaning (s .keeper) .posts) h b ≡ 0)
       (same-policy : is .policy ≡ s .policy) (same-bar : is .barred ≡ s .barred) (keeps : sound (is .keeper)) where
@@ -93,9 +93,9 @@ module _ {P K : Type 0} (rule : P → Rule) (sound : K → Type 0) (meaning : K 
     took-refused f e pile partition exchanges = record {
       answer = takes-refused (rule (s .policy)) (meaning (s .keeper) .posts) h b (meaning (s .keeper) .space (post b)) g f e;
       stands = stands-by is h (rule (s .policy)) (meaning (s .keeper) .posts) (ap rule same-policy) (ap (λ (m : Pile). m .posts) pile)
-        (same-bar ∙ st .open-to-all) keeps (subst (λ x. Tells x h) (sym exchanges) (st .exchanged))
-        (st .few) (st .valid) (subst (λ (m : Pile). Holds (rule (s .policy)) (meaning (s .keeper) .posts) m h) (sym pile) (stands-holds rule sound meaning s h st)) (st .small)
-        (subst (λ x. Groups (rule (s .policy)) (meaning (s .keeper) .posts) h x) (sym partition) groups-now);
+          (same-bar ∙ st .open-to-all) keeps (subst (λ x. Tells x h) (sym exchanges) (st .exchanged))
+          (st .few) (st .valid) (subst (λ (m : Pile). Holds (rule (s .policy)) (meaning (s .keeper) .posts) m h) (sym pile) (stands-holds rule sound meaning s h st)) (st .small)
+          (subst (λ x. Groups (rule (s .policy)) (meaning (s .keeper) .posts) h x) (sym partition) groups-now);
       moves = ap (λ (m : Pile). m .space) pile;
       same-policy = same-policy;
       same-posts = ap (λ (m : Pile). m .posts) pile;
@@ -104,9 +104,9 @@ module _ {P K : Type 0} (rule : P → Rule) (sound : K → Type 0) (meaning : K 
 
     small-now : number b ≤ 65535 → (p : ℕ) → p < meaning (s .keeper) .posts → count (b ∷ h) p ≤ 65535
     small-now small p inside = elim (cases-eq (post b) p) [
-        inl same ↦ subst (λ (x : ℕ). count (b ∷ h) x ≤ 65535) same (omega (arith, count-own b h, passed (meaning (s .keeper) .posts) h b g .next))
+      | inl same ↦ subst (λ (x : ℕ). count (b ∷ h) x ≤ 65535) same (omega (arith, count-own b h, passed (meaning (s .keeper) .posts) h b g .next))
       | inr ne ↦ omega (arith, count-other b h p ne, st .small p inside)
-      ]
+    ]
 
     pub took-entered : number b ≤ 65535 → Ok tt ≡ room-for (rule (s .policy)) (meaning (s .keeper) .posts) h b (meaning (s .keeper) .space (post b))
         → Stamped (rule (s .policy)) (meaning (s .keeper) .posts) h b (meaning (s .keeper)) (meaning (is .keeper)) (is .exchanges)
@@ -116,7 +116,7 @@ module _ {P K : Type 0} (rule : P → Rule) (sound : K → Type 0) (meaning : K 
     took-entered small e stamped groups t is-so = record {
       answer = ap Ok is-so ∙ sym (takes-taken (rule (s .policy)) (meaning (s .keeper) .posts) h b (meaning (s .keeper) .space (post b)) g e);
       stands = stands-by is (b ∷ h) (rule (s .policy)) (meaning (s .keeper) .posts) (ap rule same-policy) (stamped .same-posts)
-        (same-bar ∙ st .open-to-all) keeps (stamped .tells) (st .few) (taken (st .valid) g) (stamped .holds) (small-now small) groups;
+          (same-bar ∙ st .open-to-all) keeps (stamped .tells) (st .few) (taken (st .valid) g) (stamped .holds) (small-now small) groups;
       moves = subst (λ (x : Taken). Moves (post b) (meaning (s .keeper) .space) (Ok x) (meaning (is .keeper) .space)) (sym is-so) (stamped .pays);
       same-policy = same-policy;
       same-posts = stamped .same-posts;

@@ -12,7 +12,9 @@ use Rattle.order.specs.History.{History, Valid, count}
 use Rattle.order.specs.Records.{Bytes, post}
 use Rattle.std.specs.Results.{Cases}
 use Rattle.std.specs.declared.result.Result.{Result}
+use Rattle.station.specs.Feeds.{Feeds, after-feed, feed-records}
 use Rattle.station.specs.Takes.{takes, after-take, Moves}
+use Rattle.station.specs.declared.faults.FeedFault.{FeedFault}
 use Rattle.station.specs.declared.faults.TakeFault.{TakeFault}
 use Rattle.station.specs.declared.faults.Taken.{Taken}
 use Rattle.station.specs.declared.core.Station.{Station}
@@ -45,3 +47,14 @@ pub record Took {P K : Type 0} (rule : P → Rule) (sound : K → Type 0) (meani
   pub same-policy : is .policy ≡ was .policy
   pub same-posts : meaning (is .keeper) .posts ≡ meaning (was .keeper) .posts
   pub refused : Cases r (λ _. Unit {0}) (λ _. Unchanged meaning was is)
+
+-- No post has a stamp.
+abbrev pub Unused : Pile → Type 0
+Unused m = (p : ℕ) → p < m .posts → held-count m p ≡ 0
+
+-- What a feed answers and leaves, of a station that stands at a history.
+pub record Fed {P K : Type 0} (rule : P → Rule) (sound : K → Type 0) (meaning : K → Pile) (was is : Station P K) (h : History) (bytes : Bytes) (r : Result ℕ FeedFault) : Type 0 where
+  pub feeds : Feeds (rule (was .policy)) (meaning (was .keeper) .posts) (feed-records bytes) 0 h (meaning (was .keeper) .space) r (meaning (is .keeper) .space)
+  pub stands : Stands rule sound meaning is (after-feed h bytes r)
+  pub same-policy : is .policy ≡ was .policy
+  pub same-posts : meaning (is .keeper) .posts ≡ meaning (was .keeper) .posts

@@ -24,7 +24,8 @@ impl<P: Policy + Drop, K: Keeper + Drop> Station<P, K> {
         ensures kept { λ r. ⌜ ((h : History) (b : Bytes) → Stands rule sound meaning (now (self .entry)) h → number-of b ≤ 65535 → ground (meaning (now (self .entry) .keeper) .posts) h b ≡ 0 → Drafted (rule (now (self .entry) .policy)) (meaning (now (self .entry) .keeper) .posts) h b draft → sound (now (self .exit) .keeper) × (r ≡ room-for (rule (now (self .entry) .policy)) (meaning (now (self .entry) .keeper) .posts) h b (meaning (now (self .entry) .keeper) .space (post-of b))) × Cases r (λ _. Stamped (rule (now (self .entry) .policy)) (meaning (now (self .entry) .keeper) .posts) h b (meaning (now (self .entry) .keeper)) (meaning (now (self .exit) .keeper)) (now (self .exit) .exchanges)) (λ _. (meaning (now (self .exit) .keeper) ≡ meaning (now (self .entry) .keeper)) × (now (self .exit) .exchanges ≡ now (self .entry) .exchanges))) ⌝ }
     {
         let post = draft.record.event.post;
-        self.keeper.append(post, draft.header, draft.cut.kept_part())?;
+        self.keeper
+            .append(post, draft.header, draft.cut.kept_part())?;
         if let Kind::Receive = draft.record.kind {
             let _ = self.keeper.mark(draft.record.partner);
             self.exchanges.note(post, draft.record.partner.post);

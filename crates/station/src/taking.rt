@@ -6,6 +6,8 @@ ghost use Rattle.order.specs.History.{History, ground};
 ghost use Rattle.order.specs.Records.{Bytes, number as number-of};
 ghost use Rattle.station.specs.Drafts.{Drafted};
 ghost use Rattle.station.specs.Stands.{Stands, Took};
+ghost use Rattle.station.specs.declared.faults.TakeFault.the-variants.{Barred};
+ghost use Rattle.std.specs.declared.result.Result.the-variants.{Err};
 use super::core::Station;
 use super::drafts::Draft;
 use super::faults::KeeperIntoTake;
@@ -25,5 +27,15 @@ impl<P: Policy + Drop, K: Keeper + Drop> Station<P, K> {
             outcome: draft.outcome,
             entries: draft.cut.len,
         })
+    }
+
+    // Takes one record.
+    pub fn take(&mut self, bytes: &[u8]) -> Result<Taken, TakeFault>
+        ensures barred { λ r. ⌜ (now (self .entry) .barred ≡ true → (r ≡ Err Barred) × (now (self .exit) ≡ now (self .entry))) ⌝ }
+        ensures took { λ r. ⌜ ((h : History) → Stands rule sound meaning (now (self .entry)) h → Took rule sound meaning (now (self .entry)) (now (self .exit)) h (now (bytes .entry)) r) ⌝ }
+    {
+        let record = self.judge(bytes)?;
+        let draft = self.draft(record);
+        self.enter(draft)
     }
 }

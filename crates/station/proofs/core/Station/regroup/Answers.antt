@@ -9,9 +9,9 @@ pub returns-in-Merged : need.returns-in-Merged
 returns-in-Merged g c = record {
   same = (refl, (refl, (refl, refl)));
   grouped = λ R h b v ok d w.
-    let e = c .merge-self .ensures in
-    let was = c .args .self .now .partition in
-    groups-merged R _ h b ok was w (sym (d .outcome-is) ∙ c .in-Merged .is) (c .merge-self .result) (e .posts)
+      let e = c .merge-self .ensures in
+      let was = c .args .self .now .partition in
+      groups-merged R _ h b ok was w (sym (d .outcome-is) ∙ c .in-Merged .is) (c .merge-self .result) (e .posts)
       (λ q. e .clusters q ∙ ap (λ (x : Record). joined (clusters was) (x .event .post) (x .partner .post) q) (d .record-is));
 }
 
