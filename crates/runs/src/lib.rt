@@ -1,2 +1,0 @@
-// Lists of calls made of stations, and the comparison of two stations.
-pub mod turns;

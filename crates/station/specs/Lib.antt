@@ -1,5 +1,0 @@
-pub mod Asks
-pub mod Faults
-pub mod Feeds
-pub mod Stands
-pub mod Takes
