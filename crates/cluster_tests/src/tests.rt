@@ -78,43 +78,73 @@ fn policies() -> Result<(), Fail> {
 }
 
 // The set of two posts.
-fn pair(a: u8, b: u8) -> PostSet {
+fn pair((a, b): (u8, u8)) -> PostSet {
     let mut set = PostSet::empty();
     set.insert(a);
     set.insert(b);
     set
 }
 
+// Of 64 posts, after some merges: whether two share a cluster, and how many are in the first one's.
+fn shared(merges: [(u8, u8); 3], a: u8, b: u8) -> (bool, u32) {
+    let mut partition = Partition::open(64);
+    for (x, y) in merges {
+        partition = partition.merge(x, y);
+    }
+    (partition.same(a, b), partition.cluster(a).size())
+}
+
+fn all_merged() -> PostSet {
+    let mut partition = Partition::open(64);
+    for post in 0..63 {
+        partition = partition.merge(post, post + 1);
+    }
+    partition.cluster(31)
+}
+
 #[test]
 fn partitions() -> Result<(), Fail> {
-    check_eq(Partition::open(65).posts(), 0)?;
-    let single = Partition::open(64);
-    check_eq(single.cluster(63), pair(63, 63))?;
-    check_eq(single.cluster(64), PostSet::empty())?;
-    let two = single.merge(63, 0);
-    check_eq(two.cluster(0), pair(0, 63))?;
-    check_eq(two.cluster(1), pair(1, 1))?;
-    check(two.same(63, 0) && !two.same(0, 1) && !two.same(64, 64))?;
-    check_eq(two.merge(0, 64).cluster(0), pair(0, 63))?;
-    let mut one = single;
-    for post in 0..63 {
-        one = one.merge(post, post + 1);
-        check_eq(one.cluster(0).size(), post as u32 + 2)?;
+    let table: [([(u8, u8); 3], u8, u8, (bool, u32)); 8] = [
+        ([(0, 0), (0, 0), (0, 0)], 0, 1, (false, 1)),
+        ([(0, 63), (0, 0), (0, 0)], 63, 0, (true, 2)),
+        ([(0, 63), (0, 0), (0, 0)], 1, 63, (false, 1)),
+        ([(0, 1), (2, 3), (1, 2)], 3, 0, (true, 4)),
+        ([(0, 1), (2, 3), (1, 2)], 4, 0, (false, 1)),
+        // unknown posts
+        ([(0, 1), (0, 64), (255, 0)], 0, 1, (true, 2)),
+        ([(64, 64), (64, 65), (0, 1)], 64, 64, (false, 0)),
+        ([(0, 1), (1, 0), (0, 1)], 0, 64, (false, 2)),
+    ];
+    for (merges, a, b, expected) in table {
+        check_eq(shared(merges, a, b), expected)?;
     }
-    check_eq(one.cluster(0), PostSet::first(64))?;
-    check_eq(one.cluster(63), PostSet::first(64))
+    check_eq(Partition::open(65).posts(), 0)?;
+    check_eq(all_merged(), PostSet::first(64))
+}
+
+// The exchanges between two sets after some receives.
+fn counted(receives: [(u8, u8); 4], a: (u8, u8), b: (u8, u8)) -> u32 {
+    let mut table = Exchanges::new();
+    for (receiver, sender) in receives {
+        table.note(receiver, sender);
+    }
+    table.between(pair(a), pair(b))
 }
 
 #[test]
 fn exchanges() -> Result<(), Fail> {
-    let mut table = Exchanges::new();
-    let noted: [(u8, u8); 7] = [(0, 1), (1, 0), (0, 1), (2, 0), (63, 2), (64, 0), (0, 64)];
-    for (receiver, sender) in noted {
-        table.note(receiver, sender);
+    let table: [([(u8, u8); 4], (u8, u8), (u8, u8), u32); 6] = [
+        ([(0, 1), (1, 0), (0, 1), (2, 0)], (0, 0), (1, 1), 3),
+        ([(0, 1), (1, 0), (0, 1), (2, 0)], (1, 1), (0, 0), 3),
+        ([(0, 1), (1, 0), (0, 1), (2, 0)], (0, 63), (1, 2), 4),
+        ([(0, 1), (1, 0), (0, 1), (2, 0)], (1, 1), (2, 2), 0),
+        // a receive within both sets counts once
+        ([(0, 1), (1, 0), (0, 1), (2, 0)], (0, 1), (0, 1), 3),
+        // unknown posts are not counted
+        ([(64, 0), (0, 64), (63, 0), (255, 63)], (0, 0), (63, 63), 1),
+    ];
+    for (receives, a, b, expected) in table {
+        check_eq(counted(receives, a, b), expected)?;
     }
-    check_eq(table.between(pair(0, 0), pair(1, 1)), 3)?;
-    check_eq(table.between(pair(1, 1), pair(0, 0)), 3)?;
-    check_eq(table.between(pair(0, 63), pair(1, 2)), 5)?;
-    check_eq(table.between(pair(0, 1), pair(0, 1)), 3)?;
-    check_eq(table.between(pair(1, 1), pair(2, 2)), 0)
+    Ok(())
 }
