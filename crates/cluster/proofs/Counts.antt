@@ -1,9 +1,9 @@
 -- What a table of exchanges tells of a history, and that its sum over two clusters is their exchanges.
-use mathlib.Core.Path.{_≡_, refl, sym, ap, subst, _∙_}
-use mathlib.Core.Bool.{Bool, true, false, cond, _||_, _&&_}
+use mathlib.Core.Path.{_≡_, refl, sym, ap, _∙_}
+use mathlib.Core.Bool.{Bool, true, false, cond, _&&_}
 use mathlib.Core.List.{List, [], _∷_}
 use mathlib.Core.Logic.{_⊎_, inl, inr}
-use Prim.Native.Nat.{ℕ, zero, suc, _+_, _*_, _-_, _^_, _≤_, _<_, min}
+use Prim.Native.Nat.{ℕ, zero, suc, _+_, _*_, _-_, _^_, _≤_, _<_}
 use native.Mathlib.Numerals.{add-one}
 use native.Mathlib.Omega.{arith}
 use lib.Dec.{eqb, ltb}
@@ -15,7 +15,7 @@ use Rattle.order.specs.History.{History}
 use Rattle.order.specs.Records.{Bytes, post, partner-post, receives}
 use Rattle.cluster.specs.Clusters.{crosses, exchanges}
 use Rattle.cluster.specs.declared.exchanges.Exchanges.{Exchanges}
-use Rattle.cluster.specs.Traffic.{Tells, arrivals, arrives, capped, linked, linked-count, noted, pair-sum, row-sum, sum-below, told}
+use Rattle.cluster.specs.Counts.{Tells, arrivals, arrives, capped, linked, linked-count, noted, pair-sum, row-sum, sum-below, told}
 
 -- ---- sums
 
