@@ -1,10 +1,10 @@
 -- How one stamp lies in cells of 16 bits: eight cells of header from its place on, then its entries.
 use mathlib.Core.Bool.{cond}
-use mathlib.Core.List.{List}
+use mathlib.Core.List.{List, _++_}
 use mathlib.Core.Path.{_≡_}
 use Prim.Native.Nat.{ℕ, _+_, _*_, _/_, _%_}
 use lib.Dec.{eqb}
-use lib.ListN.{length, getD, take, drop}
+use lib.ListN.{length, getD, set, take, drop}
 use Rattle.order.specs.Posts.{size}
 use Rattle.order.specs.declared.event.Kind.{Kind}
 use Rattle.order.specs.declared.event.Kind.the-variants.{Local, Send, Receive}
@@ -63,3 +63,15 @@ pub record Packs (cells : List ℕ) (post : ℕ) (header : Header) (link : ℕ) 
   pub cover : cover-at cells 0 ≡ header .cover .bits
   pub full : full-at cells 0 ≡ header .full
   pub linked : link-at cells 0 ≡ link
+
+-- cells with a stamp's header and entries written from a on
+abbrev pub with-stamp : List ℕ → ℕ → List ℕ → List ℕ → List ℕ
+with-stamp cells a header entries = take a cells ++ (header ++ (entries ++ drop (a + 8 + length entries) cells))
+
+-- the first cell of a stamp that is marked
+abbrev pub marking : ℕ → ℕ
+marking n = n / 2 * 2 + 1
+
+-- cells with the stamp at a marked
+abbrev pub with-mark-at : List ℕ → ℕ → List ℕ
+with-mark-at cells a = set cells a (marking (getD cells a 0))

@@ -3,7 +3,7 @@ use mathlib.Core.List.{List, [], _++_, map}
 use mathlib.Core.Path.{_≡_}
 use Prim.Native.Nat.{ℕ, zero, suc, _+_, _-_, _≤_, _<_}
 use lib.Dec.{eqb}
-use lib.ListN.{length, getD}
+use lib.ListN.{length, getD, replicate}
 use Rattle.order.specs.Posts.{kept}
 use Rattle.std.specs.shelf.Lists.{sum}
 use Rattle.keeper.specs.Piles.{Pile, Stamp}
@@ -39,14 +39,22 @@ pile ix cells =
       space = λ _. length cells - ix .used;
     }
 
+-- That the first n stamps are told by these counts, newest places and used cells, and linked.
+pub record Laid (cells counts latest : List ℕ) (used n : ℕ) : Type 0 where
+  pub ends : used ≡ start cells n
+  pub counted : (p : ℕ) → length (places cells p n) ≡ getD counts p 0
+  pub newest : (p : ℕ) → getD latest p 0 ≡ newest-of (places cells p n)
+  pub linked : (p k : ℕ) → suc k < length (places cells p n) → link-at cells (getD (places cells p n) (suc k) 0) ≡ getD (places cells p n) k 0
+
 -- That index and cells fit together.
 pub record Sound (ix : Index) (cells : List ℕ) : Type 0 where
   pub few-posts : ix .posts ≤ 64
   pub slots : length (ix .counts) ≡ 64
   pub newest-slots : length (ix .newest) ≡ 64
   pub few : (p : ℕ) → getD (ix .counts) p 0 ≤ 65535
-  pub ends : ix .used ≡ start cells (total ix)
   pub within : ix .used ≤ length cells
-  pub counted : (p : ℕ) → length (places-of ix cells p) ≡ getD (ix .counts) p 0
-  pub newest : (p : ℕ) → getD (ix .newest) p 0 ≡ newest-of (places-of ix cells p)
-  pub linked : (p k : ℕ) → suc k < length (places-of ix cells p) → link-at cells (getD (places-of ix cells p) (suc k) 0) ≡ getD (places-of ix cells p) k 0
+  pub laid : Laid cells (ix .counts) (ix .newest) (ix .used) (total ix)
+
+-- The index of a pool with no stamps.
+abbrev pub empty-index : ℕ → Index
+empty-index posts = record { posts = posts; used = 0; counts = replicate 64 0; newest = replicate 64 0 }

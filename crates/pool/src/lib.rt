@@ -13,14 +13,13 @@
 // the place of its newest. A stamp is found by going back along the links from there.
 ghost use Prim.Native.Nat.{ℕ, _+_, _-_, _≤_, _<_};
 ghost use denote.Ref.{now as behind};
-ghost use lib.ListN.{length, getD, take, drop};
-ghost use mathlib.Core.List.{_++_};
+ghost use lib.ListN.{length, getD};
 ghost use mathlib.Core.Path.{_≡_};
 ghost use Rattle.keeper.specs.Answers.{of-stamp};
 ghost use Rattle.keeper.specs.Piles.{fresh, opened};
-ghost use Rattle.pool.specs.Layout.{cover-at, link-at};
+ghost use Rattle.pool.specs.Layout.{cover-at, link-at, with-stamp};
 ghost use Rattle.pool.specs.Room.{Rooms};
-ghost use Rattle.pool.specs.Stack.{Sound, pile, places-of};
+ghost use Rattle.pool.specs.Stack.{Sound, pile, places-of, empty-index};
 ghost use Rattle.std.specs.declared.result.Result.the-variants.{Ok};
 use header::kind_of;
 use header::packed;
@@ -63,12 +62,18 @@ pub fn open<'a>(posts: u8, cells: &'a mut [u16]) -> Pool<'a>
 {
     Pool {
         cells,
-        index: Index {
-            posts: if posts > MAX_POSTS { 0 } else { posts },
-            used: 0,
-            counts: [0; 64],
-            newest: [0; 64],
-        },
+        index: empty(posts),
+    }
+}
+
+fn empty(posts: u8) -> Index
+    ensures { λ r. ⌜ r ≡ empty-index (opened posts) ⌝ }
+{
+    Index {
+        posts: if posts > MAX_POSTS { 0 } else { posts },
+        used: 0,
+        counts: [0; 64],
+        newest: [0; 64],
     }
 }
 
@@ -77,7 +82,10 @@ impl Pool<'_> {
     fn cell(&self, at: usize) -> u16
         ensures { λ r. ⌜ r ≡ getD (now (now (self .entry) .cells)) at 0 ⌝ }
     {
-        if at < self.cells.len() { self.cells[at] } else { 0 }
+        match self.cells.get(at) {
+            Some(cell) => *cell,
+            None => 0,
+        }
     }
 
     // The cover of the stamp at this place.
@@ -102,10 +110,9 @@ impl Pool<'_> {
     fn count_of(&self, post: u8) -> u16
         ensures { λ r. ⌜ r ≡ getD (now (self .entry) .index .counts) post 0 ⌝ }
     {
-        if post < MAX_POSTS {
-            self.index.counts[post as usize]
-        } else {
-            0
+        match self.index.counts.get(post as usize) {
+            Some(count) => *count,
+            None => 0,
         }
     }
 
@@ -113,10 +120,9 @@ impl Pool<'_> {
     fn newest_of(&self, post: u8) -> u32
         ensures { λ r. ⌜ r ≡ getD (now (self .entry) .index .newest) post 0 ⌝ }
     {
-        if post < MAX_POSTS {
-            self.index.newest[post as usize]
-        } else {
-            0
+        match self.index.newest.get(post as usize) {
+            Some(place) => *place,
+            None => 0,
         }
     }
 
@@ -159,7 +165,7 @@ impl Pool<'_> {
 // Writes a stamp's cells from this place on.
 fn lay(cells: &mut [u16], at: usize, header: [u16; 8], entries: &[u16])
     requires { ⌜ at + 8 + length (now entries) ≤ length (now cells) ⌝ }
-    ensures { λ _. ⌜ now (cells .exit) ≡ take at (now (cells .entry)) ++ (header ++ (now (entries .entry) ++ drop (at + 8 + length (now (entries .entry))) (now (cells .entry)))) ⌝ }
+    ensures { λ _. ⌜ now (cells .exit) ≡ with-stamp (now (cells .entry)) at header (now (entries .entry)) ⌝ }
 {
     let body = at + HEADER;
     cells[at..body].copy_from_slice(&header);

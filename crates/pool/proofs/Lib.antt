@@ -1,0 +1,4 @@
+pub mod Cells
+pub mod Opens
+pub mod Questions
+pub mod Stacks
