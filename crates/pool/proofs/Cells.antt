@@ -35,9 +35,9 @@ unfolding link-at
 link-alike ys xs a b s = omega (arith, s 6 (lit< tt) (lit< tt), s 7 (lit< tt) (lit< tt))
 
 pub entries-alike
-  : (ys xs : List ℕ) (a : ℕ) → length ys ≡ length xs → cover-at ys a ≡ cover-at xs a
-  → ((k : ℕ) → k < size (cover-at xs a) → getD ys (a + 8 + k) 0 ≡ getD xs (a + 8 + k) 0)
-  → entries-at ys a ≡ entries-at xs a
+    : (ys xs : List ℕ) (a : ℕ) → length ys ≡ length xs → cover-at ys a ≡ cover-at xs a
+    → ((k : ℕ) → k < size (cover-at xs a) → getD ys (a + 8 + k) 0 ≡ getD xs (a + 8 + k) 0)
+    → entries-at ys a ≡ entries-at xs a
 unfolding entries-at
 entries-alike ys xs a l e s =
     rw e (ext-getD 0 (take (size (cover-at xs a)) (drop (a + 8) ys)) (take (size (cover-at xs a)) (drop (a + 8) xs)) long each)
@@ -46,16 +46,16 @@ entries-alike ys xs a l e s =
     long = simp (length-take, length-drop) (omega arith)
 
     each
-      : (k : ℕ) → k < length (take (size (cover-at xs a)) (drop (a + 8) ys))
-      → getD (take (size (cover-at xs a)) (drop (a + 8) ys)) k 0 ≡ getD (take (size (cover-at xs a)) (drop (a + 8) xs)) k 0
+        : (k : ℕ) → k < length (take (size (cover-at xs a)) (drop (a + 8) ys))
+        → getD (take (size (cover-at xs a)) (drop (a + 8) ys)) k 0 ≡ getD (take (size (cover-at xs a)) (drop (a + 8) xs)) k 0
     each k h =
         let n : k < size (cover-at xs a) = omega (arith, simp length-take at h) in
         getD-take (size (cover-at xs a)) (drop (a + 8) ys) k 0 n ∙ getD-drop (a + 8) ys k 0 ∙ s k n
         ∙ sym (getD-take (size (cover-at xs a)) (drop (a + 8) xs) k 0 n ∙ getD-drop (a + 8) xs k 0)
 
 same-stamp
-  : (k k′ : Kind) (m m′ : Bool) (c c′ f f′ : ℕ) (es es′ : List ℕ) → k ≡ k′ → m ≡ m′ → c ≡ c′ → f ≡ f′ → es ≡ es′
-  → _≡_ {A = Stamp} (record { kind = k; marked = m; cover = c; full = f; entries = es }) (record { kind = k′; marked = m′; cover = c′; full = f′; entries = es′ })
+    : (k k′ : Kind) (m m′ : Bool) (c c′ f f′ : ℕ) (es es′ : List ℕ) → k ≡ k′ → m ≡ m′ → c ≡ c′ → f ≡ f′ → es ≡ es′
+    → _≡_ {A = Stamp} (record { kind = k; marked = m; cover = c; full = f; entries = es }) (record { kind = k′; marked = m′; cover = c′; full = f′; entries = es′ })
 same-stamp k k′ m m′ c c′ f f′ es es′ p q r s t = rw (p, q, r, s, t) refl
 
 -- a stamp's extent
@@ -69,8 +69,8 @@ past-less xs a = omega (arith, length-below-le 64 (cover-at xs a))
 
 -- the cells of a stamp are all that it depends on
 pub stamp-alike
-  : (ys xs : List ℕ) (a : ℕ) → length ys ≡ length xs → ((k : ℕ) → a ≤ k → k < past xs a → getD ys k 0 ≡ getD xs k 0)
-  → stamp-at ys a ≡ stamp-at xs a
+    : (ys xs : List ℕ) (a : ℕ) → length ys ≡ length xs → ((k : ℕ) → a ≤ k → k < past xs a → getD ys k 0 ≡ getD xs k 0)
+    → stamp-at ys a ≡ stamp-at xs a
 unfolding past mark-at code-at
 stamp-alike ys xs a l s =
     same-stamp _ _ _ _ _ _ _ _ _ _ (ap (λ (n : ℕ). kind-of (n / 2 % 4)) first) (ap (λ (n : ℕ). eqb (n % 2) 1) first) cover
@@ -127,13 +127,13 @@ below-written xs a hs es w k h =
 
 -- the header can be read
 pub header-written
-  : (xs : List ℕ) (a : ℕ) (hs es : List ℕ) → length hs ≡ 8 → a ≤ length xs → (k : ℕ) → k < 8 → getD (with-stamp xs a hs es) (a + k) 0 ≡ getD hs k 0
+    : (xs : List ℕ) (a : ℕ) (hs es : List ℕ) → length hs ≡ 8 → a ≤ length xs → (k : ℕ) → k < 8 → getD (with-stamp xs a hs es) (a + k) 0 ≡ getD hs k 0
 header-written xs a hs es l w k h =
     getD-append-right (take a xs) _ a (a + k) 0 (length-take-le a xs w) (omega arith)
     ∙ ap (λ (n : ℕ). getD (hs ++ (es ++ drop (a + 8 + length es) xs)) n 0) (omega arith) ∙ getD-append-left hs _ 0 k (omega arith)
 
 entries-written
-  : (xs : List ℕ) (a : ℕ) (hs es : List ℕ) → length hs ≡ 8 → a ≤ length xs → take (length es) (drop (a + 8) (with-stamp xs a hs es)) ≡ es
+    : (xs : List ℕ) (a : ℕ) (hs es : List ℕ) → length hs ≡ 8 → a ≤ length xs → take (length es) (drop (a + 8) (with-stamp xs a hs es)) ≡ es
 entries-written xs a hs es l w =
     ap (λ (zs : List ℕ). take (length es) (drop (a + 8) zs)) (sym (append-assoc (take a xs) hs (es ++ drop (a + 8 + length es) xs)))
     ∙ ap (take (length es)) (drop-at (take a xs ++ hs) (es ++ drop (a + 8 + length es) xs) (a + 8) (simp (length-append, length-take) (omega arith)))
@@ -146,8 +146,8 @@ pub record Written (xs : List ℕ) (a : ℕ) (hs es : List ℕ) (post : ℕ) (he
   pub stamp : stamp-at (with-stamp xs a hs es) a ≡ unmarked header es
 
 pub written
-  : (xs : List ℕ) (a : ℕ) (hs es : List ℕ) (post : ℕ) (header : Header) (link : ℕ) → Packs hs post header link → a ≤ length xs
-  → size (header .cover .bits) ≡ length es → Written xs a hs es post header link
+    : (xs : List ℕ) (a : ℕ) (hs es : List ℕ) (post : ℕ) (header : Header) (link : ℕ) → Packs hs post header link → a ≤ length xs
+    → size (header .cover .bits) ≡ length es → Written xs a hs es post header link
 unfolding post-at mark-at code-at past entries-at
 written xs a hs es post header link p w z =
     record {
@@ -155,8 +155,8 @@ written xs a hs es post header link p w z =
       linked = link-alike ys hs a 0 next ∙ p .linked;
       ends = ap (λ (n : ℕ). a + price n) sized;
       stamp =
-        same-stamp _ _ _ _ _ _ _ _ _ _ (ap (λ (n : ℕ). kind-of (n / 2 % 4)) first ∙ p .kind) (ap (λ (n : ℕ). eqb (n % 2) 1) first ∙ ap (λ (n : ℕ). eqb n 1) (p .unmarked)) cover
-        (full-alike ys hs a 0 next ∙ p .full) (ap (λ (n : ℕ). take n (drop (a + 8) ys)) sized ∙ entries-written xs a hs es (p .long) w);
+          same-stamp _ _ _ _ _ _ _ _ _ _ (ap (λ (n : ℕ). kind-of (n / 2 % 4)) first ∙ p .kind) (ap (λ (n : ℕ). eqb (n % 2) 1) first ∙ ap (λ (n : ℕ). eqb n 1) (p .unmarked)) cover
+          (full-alike ys hs a 0 next ∙ p .full) (ap (λ (n : ℕ). take n (drop (a + 8) ys)) sized ∙ entries-written xs a hs es (p .long) w);
     }
   where
     ys : List ℕ
@@ -176,8 +176,8 @@ written xs a hs es post header link p w z =
 
 -- a header and then entries, written one after the other
 pub written-in-turn
-  : (xs : List ℕ) (a : ℕ) (hs es : List ℕ) → length hs ≡ 8 → a + 8 + length es ≤ length xs
-  → putMid (a + 8) (a + 8 + length es - (a + 8)) (putMid a (a + 8 - a) xs hs) es ≡ with-stamp xs a hs es
+    : (xs : List ℕ) (a : ℕ) (hs es : List ℕ) → length hs ≡ 8 → a + 8 + length es ≤ length xs
+    → putMid (a + 8) (a + 8 + length es - (a + 8)) (putMid a (a + 8 - a) xs hs) es ≡ with-stamp xs a hs es
 written-in-turn xs a hs es l w =
     ap (λ (zs : List ℕ). zs ++ (es ++ drop (a + 8 + length es - (a + 8)) (drop (a + 8) (putMid a (a + 8 - a) xs hs))))
     (take-putMid a (a + 8 - a) xs hs (a + 8) (omega arith) (omega arith))

@@ -3,26 +3,27 @@ use mathlib.Core.Path.{_≡_, refl, sym, ap, subst, _∙_}
 use mathlib.Core.Bool.{Bool, true, false, cond, _&&_}
 use mathlib.Core.List.{List, map}
 use mathlib.Core.Logic.{inl, inr}
-use Prim.Native.Nat.{ℕ, _+_, _-_, _*_, _≤_, _<_}
+use Prim.Native.Nat.{ℕ, _+_, _-_, _*_, _^_, _≤_, _<_}
 use native.Mathlib.Omega.{arith}
 use lib.Dec.{ltb, leb, eqb}
-use lib.ListN.{length, getD}
+use lib.ListN.{length, getD, take, drop}
 use Rattle.std.proofs.shelf.Elements.{all-from-getD}
-use Rattle.std.proofs.shelf.Lists.{length-map, getD-map}
+use Rattle.std.proofs.shelf.Lists.{length-map, getD-map, getD-take, getD-drop}
 use Rattle.std.proofs.shelf.Sums.{sumBy-le}
-use Rattle.std.proofs.shelf.Tests.{cases-bool, and-parts, ltb-true, leb-true, eqb-true}
+use Rattle.std.proofs.shelf.Tests.{cases-bool, and-parts, ltb-true, leb-true, cond-true, cond-false}
 use Rattle.std.proofs.shelf.Ways.{tells}
 use Rattle.std.proofs.shelf.Results.{err-from-errBy}
 use Rattle.std.specs.Results.{ErrBy}
 use Rattle.std.specs.declared.result.Result.{Result}
 use Rattle.std.specs.declared.result.Result.the-variants.{Ok, Err}
-use Rattle.order.specs.Posts.{size}
+use Rattle.order.specs.Posts.{has, below, size}
 use Rattle.order.specs.declared.event.Event.{Event}
-use Rattle.order.proofs.PostSets.{length-below-le}
-use Rattle.keeper.specs.Answers.{of-stamp, ask-stamp, admission}
-use Rattle.keeper.specs.Piles.{Stamp, no-stamp, price}
+use Rattle.order.proofs.PostSets.{length-below-le, has-bound, rank-below}
+use Rattle.keeper.specs.Answers.{of-stamp, ask-stamp, ask-append, admission}
+use Rattle.keeper.specs.Piles.{Stamp, no-stamp, entry-of, price}
 use Rattle.keeper.specs.declared.fault.KeeperFault.{KeeperFault}
-use Rattle.pool.specs.Layout.{stamp-at}
+use Rattle.keeper.specs.declared.fault.KeeperFault.the-variants.{NotCovered}
+use Rattle.pool.specs.Layout.{cover-at, entries-at, stamp-at}
 use Rattle.pool.specs.Room.{asked}
 use Rattle.pool.specs.Stack.{places-of, total, pile, Sound}
 use Rattle.pool.specs.declared.Index.{Index}
@@ -47,9 +48,10 @@ pub record Found (ix : Index) (cells : List ℕ) (e : Event) (place : ℕ) : Typ
 
 found-at : (posts count p k x place : ℕ) → Ok place ≡ of-stamp {A = ℕ} posts count p k (Ok x) → Held posts count p k × (place ≡ x)
 found-at posts count p k x place e =
-    elim (cases-bool (ltb p posts))
-    [ inl t ↦ elim (cases-bool (ltb 0 k && leb k count)) [ inl u ↦ (record { known = t; numbered = u }, grind arith) | inr v ↦ grind arith ]
-    | inr f ↦ grind arith ]
+    elim (cases-bool (ltb p posts)) [
+      | inl t ↦ elim (cases-bool (ltb 0 k && leb k count)) [ inl u ↦ (record { known = t; numbered = u }, grind arith) | inr v ↦ grind arith ]
+      | inr f ↦ grind arith
+    ]
 
 pub found : (ix : Index) (cells : List ℕ) (e : Event) (place : ℕ) → Ok place ≡ finding ix cells e → Found ix cells e place
 found ix cells e place q =
@@ -61,23 +63,23 @@ pub count-is : (ix : Index) (cells : List ℕ) → Sound ix cells → (p : ℕ) 
 count-is ix cells s p = sym (length-map (places-of ix cells p) (stamp-at cells) ∙ s .laid .counted p)
 
 pub found-within
-  : (ix : Index) (cells : List ℕ) (e : Event) (place : ℕ) → Sound ix cells → Found ix cells e place
-  → (0 < e .number) × (e .number - 1 < length (places-of ix cells (e .post)))
+    : (ix : Index) (cells : List ℕ) (e : Event) (place : ℕ) → Sound ix cells → Found ix cells e place
+    → (0 < e .number) × (e .number - 1 < length (places-of ix cells (e .post)))
 found-within ix cells e place s f =
     let t = and-parts _ _ (f .held .numbered) in
     (ltb-true 0 (e .number) (t .0), omega (arith, ltb-true 0 (e .number) (t .0), leb-true (e .number) (getD (ix .counts) (e .post) 0) (t .1), s .laid .counted (e .post)))
 
 -- the stamp that is meant is the one found
 pub stamp-found
-  : (ix : Index) (cells : List ℕ) (e : Event) (place : ℕ) → Sound ix cells → Found ix cells e place
-  → getD (pile ix cells .stamps (e .post)) (e .number - 1) no-stamp ≡ stamp-at cells place
+    : (ix : Index) (cells : List ℕ) (e : Event) (place : ℕ) → Sound ix cells → Found ix cells e place
+    → getD (pile ix cells .stamps (e .post)) (e .number - 1) no-stamp ≡ stamp-at cells place
 stamp-found ix cells e place s f =
     getD-map (stamp-at cells) (places-of ix cells (e .post)) (e .number - 1) 0 no-stamp (found-within ix cells e place s f .1)
     ∙ ap (stamp-at cells) (sym (f .is))
 
 pub answered
-  : {A : Type 0} (ix : Index) (cells : List ℕ) (e : Event) (place : ℕ) (field : Stamp → Result A KeeperFault) → Sound ix cells
-  → Ok place ≡ finding ix cells e → field (stamp-at cells place) ≡ ask-stamp (pile ix cells) e field
+    : {A : Type 0} (ix : Index) (cells : List ℕ) (e : Event) (place : ℕ) (field : Stamp → Result A KeeperFault) → Sound ix cells
+    → Ok place ≡ finding ix cells e → field (stamp-at cells place) ≡ ask-stamp (pile ix cells) e field
 answered {A} ix cells e place field s q =
     let f = found ix cells e place q in
     ap field (sym (stamp-found ix cells e place s f))
@@ -91,8 +93,8 @@ fails posts count p k x y fault e =
     [ inl t ↦ elim (cases-bool (ltb 0 k && leb k count)) [ inl u ↦ grind arith | inr v ↦ grind arith ] | inr f ↦ grind arith ]
 
 pub not-answered
-  : {A : Type 0} (ix : Index) (cells : List ℕ) (e : Event) (fault : KeeperFault) (field : Stamp → Result A KeeperFault) → Sound ix cells
-  → Err fault ≡ finding ix cells e → Err fault ≡ ask-stamp (pile ix cells) e field
+    : {A : Type 0} (ix : Index) (cells : List ℕ) (e : Event) (fault : KeeperFault) (field : Stamp → Result A KeeperFault) → Sound ix cells
+    → Err fault ≡ finding ix cells e → Err fault ≡ ask-stamp (pile ix cells) e field
 not-answered {A} ix cells e fault field s q =
     fails (ix .posts) (getD (ix .counts) (e .post) 0) (e .post) (e .number) _ (field (getD (pile ix cells .stamps (e .post)) (e .number - 1) no-stamp)) fault q
     ∙ ap (λ (n : ℕ). of-stamp {A = A} (ix .posts) n (e .post) (e .number) (field (getD (pile ix cells .stamps (e .post)) (e .number - 1) no-stamp)))
@@ -100,12 +102,33 @@ not-answered {A} ix cells e fault field s q =
 
 -- the same, past a `?`
 pub passed-on
-  : {A : Type 0} (ix : Index) (cells : List ℕ) (e : Event) {fault : KeeperFault} {r : Result A KeeperFault} (field : Stamp → Result A KeeperFault)
-  → Sound ix cells → Err fault ≡ finding ix cells e → ErrBy r (λ y. y ≡ fault) → r ≡ ask-stamp (pile ix cells) e field
+    : {A : Type 0} (ix : Index) (cells : List ℕ) (e : Event) {fault : KeeperFault} {r : Result A KeeperFault} (field : Stamp → Result A KeeperFault)
+    → Sound ix cells → Err fault ≡ finding ix cells e → ErrBy r (λ y. y ≡ fault) → r ≡ ask-stamp (pile ix cells) e field
 passed-on ix cells e {fault} {r} field s q b =
     let p = err-from-errBy r b in p .1 ∙ ap Err (p .2) ∙ not-answered ix cells e fault field s q
 
+-- ---- an entry
+
+abbrev pub entry-field : ℕ → Stamp → Result ℕ KeeperFault
+entry-field q t = cond (has (t .cover) q) (Ok (entry-of t q)) (Err NotCovered)
+
+pub not-covered : (cells : List ℕ) (a q : ℕ) → has (cover-at cells a) q ≡ false → Err NotCovered ≡ entry-field q (stamp-at cells a)
+not-covered cells a q h = sym (cond-false (has (cover-at cells a) q) (Ok (entry-of (stamp-at cells a) q)) (Err NotCovered) h)
+
+pub covered
+    : (cells : List ℕ) (a q : ℕ) → cover-at cells a < 2 ^ 64 → has (cover-at cells a) q ≡ true
+    → Ok (getD cells (a + 8 + length (below q (cover-at cells a))) 0) ≡ entry-field q (stamp-at cells a)
+unfolding entries-at
+covered cells a q b h =
+    ap Ok (sym (getD-take (size (cover-at cells a)) (drop (a + 8) cells) (length (below q (cover-at cells a))) 0 (rank-below q 64 (cover-at cells a) (has-bound (cover-at cells a) q b h) h)
+    ∙ getD-drop (a + 8) cells (length (below q (cover-at cells a))) 0))
+    ∙ sym (cond-true (has (cover-at cells a) q) (Ok (entry-of (stamp-at cells a) q)) (Err NotCovered) h)
+
 -- ---- room
+
+-- admission as the pile has it
+pub asked-is : (ix : Index) (cells : List ℕ) (p cover n : ℕ) → Sound ix cells → asked ix cells p cover n ≡ ask-append (pile ix cells) p cover n
+asked-is ix cells p cover n s = ap (λ (count : ℕ). admission (ix .posts) count (length cells - ix .used) p cover n) (count-is ix cells s p)
 
 pub record Admitted (posts count space p cover n : ℕ) : Type 0 where
   pub known : p < posts
@@ -123,7 +146,7 @@ total-less ix cells s =
 
 -- a stamp that is admitted has a slot, and ends within 32 bits
 pub roomy
-  : (ix : Index) (cells : List ℕ) (p cover n : ℕ) → Sound ix cells → asked ix cells p cover n ≡ Ok tt → (p < 64) × (ix .used + 8 + n ≤ 4294967295)
+    : (ix : Index) (cells : List ℕ) (p cover n : ℕ) → Sound ix cells → asked ix cells p cover n ≡ Ok tt → (p < 64) × (ix .used + 8 + n ≤ 4294967295)
 roomy ix cells p cover n s e =
     let a = admitted (ix .posts) (getD (ix .counts) p 0) (length cells - ix .used) p cover n e in
     (omega (arith, s .few-posts, a .known), omega (arith, s .laid .ends, start-less cells (total ix), total-less ix cells s, a .sized, length-below-le 64 cover))

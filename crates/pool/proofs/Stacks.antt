@@ -1,7 +1,7 @@
 -- Stamps one after another: where they start, and which are a post's.
 use mathlib.Core.Path.{_≡_, refl, sym, ap, subst, _∙_}
 use mathlib.Core.Bool.{Bool, true, false}
-use mathlib.Core.List.{List, [], _∷_, _++_}
+use mathlib.Core.List.{List, [], _∷_, _++_, map}
 use mathlib.Core.Logic.{_⊎_, inl, inr}
 use Prim.Native.Nat.{ℕ, zero, suc, _+_, _-_, _*_, _/_, _≤_, _<_}
 use native.Mathlib.Omega.{arith}
@@ -11,7 +11,7 @@ use Rattle.std.proofs.shelf.Lists.{append-nil, length-push, length-set, getD-ap
 use Rattle.std.proofs.shelf.Tests.{cases-eq, cases-lt, cases-order, eq-eqb, ne-eqb}
 use Rattle.order.specs.Posts.{kept}
 use Rattle.order.specs.Posts.{size}
-use Rattle.keeper.specs.Piles.{price}
+use Rattle.keeper.specs.Piles.{Stamp, price}
 use Rattle.pool.specs.Layout.{post-at, cover-at, link-at, past, with-mark-at}
 use Rattle.pool.specs.Stack.{start, places, newest-of, Laid}
 use Rattle.pool.proofs.Cells.{Alike, past-more, past-less, cover-alike, link-alike, post-marked}
@@ -45,9 +45,10 @@ places-without xs p n ne =
 -- what holds of each element, and of one more
 pub at-push : (P : ℕ → Type 0) (ys : List ℕ) (a k : ℕ) → (k < length ys → P (getD ys k 0)) → P a → k < length (ys ++ a ∷ []) → P (getD (ys ++ a ∷ []) k 0)
 at-push P ys a k each here h =
-    elim (cases-lt k (length ys))
-    [ inl l ↦ subst P (sym (getD-append-left ys (a ∷ []) 0 k l)) (each l)
-    | inr g ↦ subst P (sym (getD-push ys a 0 k (omega (arith, length-push ys a)))) here ]
+    elim (cases-lt k (length ys)) [
+      | inl l ↦ subst P (sym (getD-append-left ys (a ∷ []) 0 k l)) (each l)
+      | inr g ↦ subst P (sym (getD-push ys a 0 k (omega (arith, length-push ys a)))) here
+    ]
 
 -- a place is the start of a stamp of its post
 pub record Starts (xs : List ℕ) (p n a : ℕ) : Type 0 where
@@ -61,8 +62,8 @@ later xs p n a s = record { after = s .after; before = omega (arith, s .before);
 
 -- a fact of a post's places among n + 1 stamps, from the same among n
 places-step
-  : (P : List ℕ → Type 0) (xs : List ℕ) (p n : ℕ) → (post-at xs (start xs n) ≡ p → P (places xs p n ++ start xs n ∷ [])) → P (places xs p n)
-  → P (places xs p (suc n))
+    : (P : List ℕ → Type 0) (xs : List ℕ) (p n : ℕ) → (post-at xs (start xs n) ≡ p → P (places xs p n ++ start xs n ∷ [])) → P (places xs p n)
+    → P (places xs p (suc n))
 places-step P xs p n new old =
     elim (cases-eq (post-at xs (start xs n)) p)
     [ inl e ↦ subst P (sym (places-with xs p n e)) (new e) | inr ne ↦ subst P (sym (places-without xs p n ne)) old ]
@@ -84,8 +85,8 @@ places-ascend xs p (suc n) k l h m =
     (λ _ t. new t (λ b. places-ascend xs p n k l h b)) (places-ascend xs p n k l h) m
   where
     new
-      : l < length (places xs p n ++ start xs n ∷ []) → (l < length (places xs p n) → past xs (getD (places xs p n) k 0) ≤ getD (places xs p n) l 0)
-      → past xs (getD (places xs p n ++ start xs n ∷ []) k 0) ≤ getD (places xs p n ++ start xs n ∷ []) l 0
+        : l < length (places xs p n ++ start xs n ∷ []) → (l < length (places xs p n) → past xs (getD (places xs p n) k 0) ≤ getD (places xs p n) l 0)
+        → past xs (getD (places xs p n ++ start xs n ∷ []) k 0) ≤ getD (places xs p n ++ start xs n ∷ []) l 0
     new t ih =
         let b : k < length (places xs p n) = omega (arith, length-push (places xs p n) (start xs n)) in
         let s = place-starts xs p n k b in
@@ -119,15 +120,15 @@ places-keeps ys xs p n (suc i) w h =
     rw (e, s, q) refl
 
 pub links-keep
-  : (ys xs : List ℕ) (p n k : ℕ) → Keeps ys xs n → k < length (places xs p n)
-  → link-at ys (getD (places xs p n) k 0) ≡ link-at xs (getD (places xs p n) k 0)
+    : (ys xs : List ℕ) (p n k : ℕ) → Keeps ys xs n → k < length (places xs p n)
+    → link-at ys (getD (places xs p n) k 0) ≡ link-at xs (getD (places xs p n) k 0)
 links-keep ys xs p n k w h =
     let s = place-starts xs p n k h in
     ap (link-at ys) (s .is) ∙ w .link (s .after) (s .before) ∙ ap (link-at xs) (sym (s .is))
 
 -- cells that are the same up to the end of the n-th stamp
 pub below-keeps
-  : (ys xs : List ℕ) (n : ℕ) → length ys ≡ length xs → ((k : ℕ) → k < start xs n → getD ys k 0 ≡ getD xs k 0) → Keeps ys xs n
+    : (ys xs : List ℕ) (n : ℕ) → length ys ≡ length xs → ((k : ℕ) → k < start xs n → getD ys k 0 ≡ getD xs k 0) → Keeps ys xs n
 unfolding post-at
 below-keeps ys xs n l s =
     record {
@@ -143,9 +144,10 @@ below-keeps ys xs n l s =
 -- a stamp's first cell is no other cell of a header
 apart : (xs : List ℕ) (i j k : ℕ) → 0 < k → k < 8 → start xs i + k ≡ start xs j → ⊥
 apart xs i j k a b q =
-    elim (cases-order i j)
-    [ inl e ↦ omega (arith, ap (start xs) e)
-    | inr r ↦ elim r [ inl l ↦ omega (arith, start-past xs i j l, past-more xs (start xs i)) | inr g ↦ omega (arith, start-past xs j i g, past-more xs (start xs j)) ] ]
+    elim (cases-order i j) [
+      | inl e ↦ omega (arith, ap (start xs) e)
+      | inr r ↦ elim r [ inl l ↦ omega (arith, start-past xs i j l, past-more xs (start xs i)) | inr g ↦ omega (arith, start-past xs j i g, past-more xs (start xs j)) ]
+    ]
 
 -- cells with a mark more
 pub marked-keeps : (xs : List ℕ) (n j : ℕ) → j < n → start xs n ≤ length xs → Keeps (with-mark-at xs (start xs j)) xs n
@@ -210,13 +212,15 @@ links-push : (cells zs : List ℕ) (a : ℕ) → Links cells zs → link-at cell
 links-push cells zs a l e k h =
     let n : suc k < length zs + 1 = omega (arith, length-push zs a) in
     let left : getD (zs ++ a ∷ []) k 0 ≡ getD zs k 0 = getD-append-left zs (a ∷ []) 0 k (omega arith) in
-    at-push (λ (b : ℕ). link-at cells b ≡ getD zs k 0) zs a (suc k) (l k)
-    ?
-    h ∙ sym left
+    let new : k + 1 ≡ length zs → link-at cells a ≡ getD zs k 0 = λ m. e ∙ ap (λ (i : ℕ). getD zs i 0) (omega arith) in
+    elim (cases-lt (suc k) (length zs)) [
+      | inl b ↦ ap (link-at cells) (getD-append-left zs (a ∷ []) 0 (suc k) b) ∙ l k b ∙ sym left
+      | inr g ↦ ap (link-at cells) (getD-push zs a 0 (suc k) (omega arith)) ∙ new (omega arith) ∙ sym left
+    ]
 
 pub laid-push
-  : (ys xs counts latest : List ℕ) (used n p end : ℕ) → Laid xs counts latest used n → Pushed ys xs n p used → link-at ys used ≡ getD latest p 0
-  → past ys used ≡ end → p < length counts → p < length latest → Laid ys (set counts p (getD counts p 0 + 1)) (set latest p used) end (suc n)
+    : (ys xs counts latest : List ℕ) (used n p end : ℕ) → Laid xs counts latest used n → Pushed ys xs n p used → link-at ys used ≡ getD latest p 0
+    → past ys used ≡ end → p < length counts → p < length latest → Laid ys (set counts p (getD counts p 0 + 1)) (set latest p used) end (suc n)
 unfolding start
 laid-push ys xs counts latest used n p end l w link ends c d =
     record {
@@ -240,3 +244,12 @@ laid-push ys xs counts latest used n p end l w link ends c d =
 
     own-links : (q : ℕ) → q ≡ p → Links ys (places ys q (suc n))
     own-links q e = rw e (subst (Links ys) (sym (own-places ys xs n p used w)) (links-push ys (places xs p n) used (old p) (link ∙ l .newest p)))
+
+-- ---- stamps
+
+pub map-same : (f g : ℕ → Stamp) (zs : List ℕ) → ((k : ℕ) → k < length zs → f (getD zs k 0) ≡ g (getD zs k 0)) → map f zs ≡ map g zs
+map-same f g [] h = refl
+map-same f g (z ∷ zs) h =
+    let first : f z ≡ g z = h 0 (omega arith) in
+    let rest : map f zs ≡ map g zs = map-same f g zs (λ k l. h (suc k) (omega arith)) in
+    rw (first, rest) refl

@@ -11,7 +11,7 @@
 //
 // Beside the cells stand the number of posts, how many cells are used, and for each post how many stamps it has and
 // the place of its newest. A stamp is found by going back along the links from there.
-ghost use Prim.Native.Nat.{ℕ, _+_, _-_, _≤_, _<_};
+ghost use Prim.Native.Nat.{_+_, _-_, _^_, _≤_, _<_};
 ghost use denote.Ref.{now as behind};
 ghost use lib.ListN.{length, getD};
 ghost use mathlib.Core.Path.{_≡_};
@@ -90,7 +90,8 @@ impl Pool<'_> {
 
     // The cover of the stamp at this place.
     fn cover_at(&self, place: u32) -> PostSet
-        ensures { λ r. ⌜ r .bits ≡ cover-at (now (now (self .entry) .cells)) place ⌝ }
+        ensures is { λ r. ⌜ r .bits ≡ cover-at (now (now (self .entry) .cells)) place ⌝ }
+        ensures fits { λ r. ⌜ r .bits < 2 ^ 64 ⌝ }
     {
         let at = place as usize;
         let low = self.cell(at + 1) as u64 + self.cell(at + 2) as u64 * 0x1_0000;

@@ -4,4 +4,4 @@ use Rattle.pool.proofs.Pool.cover_at.Needs as need
 
 pub returns : need.returns
 unfolding cover-at
-returns c = omega arith
+returns c = record { is = omega arith; fits = omega arith }

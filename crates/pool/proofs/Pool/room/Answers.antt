@@ -9,7 +9,7 @@ use Rattle.pool.proofs.Pool.room.Needs.{then-post-ge-MAX-POSTS·by·then-post-
 
 pub returns-then-post-ge-MAX-POSTS : need.returns-then-post-ge-MAX-POSTS
 returns-then-post-ge-MAX-POSTS c s =
-    let e : asked (c .args .self .now .index) (c .args .self .now .cells .now) (c .args .post) (c .args .cover .bits) (c .args .entries) ≡ Ok tt = ? in
+    let e : asked (c .args .self .now .index) (c .args .self .now .cells .now) (c .args .post) (c .args .cover .bits) (c .args .entries) ≡ Ok tt = sym (simp (c .count-of-count .ensures, c .left .ensures) at (c .in-Continue-admit .ensures tt)) in
     let r = roomy (c .args .self .now .index) (c .args .self .now .cells .now) (c .args .post) (c .args .cover .bits) (c .args .entries) s e in
     absurd
     (elim (c .then-post-ge-MAX-POSTS .came)
@@ -17,6 +17,6 @@ returns-then-post-ge-MAX-POSTS c s =
 
 pub returns : need.returns
 returns c =
-    let e : asked (c .args .self .now .index) (c .args .self .now .cells .now) (c .args .post) (c .args .cover .bits) (c .args .entries) ≡ Ok tt = ? in
+    let e : asked (c .args .self .now .index) (c .args .self .now .cells .now) (c .args .post) (c .args .cover .bits) (c .args .entries) ≡ Ok tt = sym (simp (c .count-of-count .ensures, c .left .ensures) at (c .in-Continue-admit .ensures tt)) in
     let a = admitted _ _ _ _ _ _ e in
     record { admitted = e; known = c .if-post-ge-MAX-POSTS .left; numbers = a .numbers; is = omega arith; holds = omega (arith, a .holds) }

@@ -1,8 +1,12 @@
+use Prim.Native.Nat.{ℕ}
 use mathlib.Core.Path.{sym, ap, _∙_}
 use Rattle.std.specs.declared.result.Result.the-variants.{Ok}
 use Rattle.order.specs.declared.posts.PostSet.{PostSet}
 use Rattle.pool.proofs.Questions.{answered, passed-on}
 use Rattle.pool.proofs.PoolKeeper.cover.Needs as need
+
+abbrev set-of : ℕ → PostSet
+set-of bits = record { bits = bits }
 
 pub returns-in-Break-place : need.returns-in-Break-place
 returns-in-Break-place c s =
@@ -10,5 +14,5 @@ returns-in-Break-place c s =
 
 pub returns : need.returns
 returns c s =
-    ap Ok ?
+    ap Ok (ap set-of (c .cover-at .ensures .is))
     ∙ answered (c .args .self .now .index) (c .args .self .now .cells .now) (c .args .event) (c .in-Continue-place .place) (λ t. Ok (record { bits = t .cover })) s (c .in-Continue-place .ensures tt s)
