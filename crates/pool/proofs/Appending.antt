@@ -2,7 +2,7 @@
 use mathlib.Core.Path.{_≡_, refl, sym, ap, subst, _∙_}
 use mathlib.Core.List.{List, [], _∷_, _++_, map}
 use mathlib.Core.Logic.{inl, inr}
-use Prim.Native.Nat.{ℕ, suc, _+_, _-_, _≤_, _<_}
+use Prim.Native.Nat.{ℕ, suc, _+_, _≤_, _<_}
 use native.Mathlib.Omega.{arith}
 use lib.ListN.{length, getD, set}
 use Rattle.std.proofs.shelf.Lists.{map-push, length-set, getD-set-same, getD-set-other}
@@ -12,13 +12,13 @@ use Rattle.std.proofs.shelf.Tests.{cases-eq}
 use Rattle.std.specs.Results.{ErrBy}
 use Rattle.std.specs.declared.result.Result.{Result}
 use Rattle.std.specs.declared.result.Result.the-variants.{Ok, Err}
-use Rattle.keeper.specs.Moves.{Appends, Appended, unmarked}
-use Rattle.keeper.specs.Piles.{Stamp, price}
+use Rattle.keeper.specs.Moves.{Appends, unmarked}
+use Rattle.keeper.specs.Piles.{Stamp}
 use Rattle.keeper.specs.declared.admit.Header.{Header}
 use Rattle.keeper.specs.declared.fault.KeeperFault.{KeeperFault}
 use Rattle.pool.specs.Layout.{stamp-at, past, Packs, with-stamp}
 use Rattle.pool.specs.Room.{asked, Room}
-use Rattle.pool.specs.Stack.{start, places, places-of, total, pile, Sound, Laid}
+use Rattle.pool.specs.Stack.{start, places, total, pile, Sound, Laid}
 use Rattle.pool.specs.declared.Index.{Index}
 use Rattle.pool.proofs.Cells.{stamp-alike, length-written, below-written, Written, written}
 use Rattle.pool.proofs.Questions.{asked-is, admitted}

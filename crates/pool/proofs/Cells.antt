@@ -1,12 +1,12 @@
 -- Reading a stamp's cells.
 use mathlib.Core.Path.{_≡_, refl, sym, ap, _∙_}
-use mathlib.Core.Bool.{Bool, true}
+use mathlib.Core.Bool.{Bool}
 use mathlib.Core.List.{List, _++_}
-use Prim.Native.Nat.{ℕ, _+_, _-_, _*_, _/_, _%_, _≤_, _<_}
+use Prim.Native.Nat.{ℕ, _+_, _-_, _/_, _%_, _≤_, _<_}
 use native.Mathlib.Omega.{arith}
 use lib.Dec.{eqb, lit<}
 use borrow.Rule.Slice.PartMut.{putMid}
-use lib.ListN.{length, getD, set, take, drop}
+use lib.ListN.{length, getD, take, drop}
 use Rattle.std.proofs.shelf.Lists.{append-assoc, ext-getD, getD-append-left, getD-append-right, getD-take, getD-drop, length-append, length-take, length-take-le, length-drop, length-set, getD-set-same, getD-set-other, take-at, drop-at, drop-drop}
 use Rattle.std.proofs.shelf.Parts.{take-putMid, drop-putMid}
 use Rattle.order.specs.Posts.{size}

@@ -2,7 +2,7 @@
 use mathlib.Core.Path.{_≡_, refl, sym, ap, subst, _∙_}
 use mathlib.Core.List.{List, map}
 use mathlib.Core.Logic.{inl, inr}
-use Prim.Native.Nat.{ℕ, _+_, _-_, _≤_, _<_}
+use Prim.Native.Nat.{ℕ, _-_, _<_}
 use native.Mathlib.Omega.{arith}
 use lib.ListN.{length, getD, set}
 use Rattle.std.proofs.shelf.Lists.{ext-getD, length-map, length-set, getD-map, getD-set-same, getD-set-other}
@@ -12,10 +12,10 @@ use Rattle.std.specs.Results.{ErrBy}
 use Rattle.std.specs.declared.result.Result.{Result}
 use Rattle.std.specs.declared.result.Result.the-variants.{Ok, Err}
 use Rattle.order.specs.declared.event.Event.{Event}
-use Rattle.keeper.specs.Moves.{Marks, Marked}
+use Rattle.keeper.specs.Moves.{Marks}
 use Rattle.keeper.specs.Piles.{Stamp, no-stamp, stamp-of, with-mark}
 use Rattle.keeper.specs.declared.fault.KeeperFault.{KeeperFault}
-use Rattle.pool.specs.Layout.{post-at, stamp-at, past, with-mark-at}
+use Rattle.pool.specs.Layout.{post-at, stamp-at, with-mark-at}
 use Rattle.pool.specs.Stack.{start, places, total, pile, Sound}
 use Rattle.pool.specs.declared.Index.{Index}
 use Rattle.pool.proofs.Cells.{past-more, stamp-alike, stamp-marked}

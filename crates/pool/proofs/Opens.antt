@@ -1,18 +1,16 @@
 -- A pool with no stamps.
 use mathlib.Core.Path.{_≡_, refl, ap}
-use mathlib.Core.List.{List, []}
-use Prim.Native.Nat.{ℕ, _≤_, _-_}
+use mathlib.Core.List.{List}
+use Prim.Native.Nat.{ℕ, _≤_}
 use native.Mathlib.Omega.{arith}
 use native.Mathlib.Nat.{sub-zero}
-use lib.Dec.{leb}
 use lib.ListN.{length, getD, replicate}
 use Rattle.std.proofs.shelf.Lists.{getD-past, getD-replicate}
 use Rattle.std.proofs.shelf.Tests.{cases-lt}
 use Rattle.std.proofs.shelf.Ways.{tells}
-use mathlib.Core.Bool.{cond}
 use mathlib.Core.Logic.{inl, inr}
-use Rattle.keeper.specs.Piles.{Pile, fresh, opened}
-use Rattle.pool.specs.Stack.{start, places, pile, Sound, Laid, empty-index}
+use Rattle.keeper.specs.Piles.{fresh, opened}
+use Rattle.pool.specs.Stack.{start, places, pile, Sound, empty-index}
 
 none : (p : ℕ) → _≡_ {A = ℕ} (getD (replicate 64 0) p 0) 0
 none p = elim (cases-lt p 64) [ inl l ↦ getD-replicate 64 p 0 0 l | inr g ↦ getD-past (replicate 64 0) p 0 g ]

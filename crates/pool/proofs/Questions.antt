@@ -1,12 +1,12 @@
 -- From where a stamp is found to what a keeper answers; and where there is room.
-use mathlib.Core.Path.{_≡_, refl, sym, ap, subst, _∙_}
-use mathlib.Core.Bool.{Bool, true, false, cond, _&&_}
-use mathlib.Core.List.{List, map}
+use mathlib.Core.Path.{_≡_, refl, sym, ap, _∙_}
+use mathlib.Core.Bool.{true, false, cond, _&&_}
+use mathlib.Core.List.{List}
 use mathlib.Core.Logic.{inl, inr}
 use Prim.Native.Nat.{ℕ, _+_, _-_, _*_, _^_, _≤_, _<_}
 use native.Mathlib.Omega.{arith}
-use lib.Dec.{ltb, leb, eqb}
-use lib.ListN.{length, getD, take, drop}
+use lib.Dec.{ltb, leb}
+use lib.ListN.{length, getD, drop}
 use Rattle.std.proofs.shelf.Elements.{all-from-getD}
 use Rattle.std.proofs.shelf.Lists.{length-map, getD-map, getD-take, getD-drop}
 use Rattle.std.proofs.shelf.Sums.{sumBy-le}
@@ -20,7 +20,7 @@ use Rattle.order.specs.Posts.{has, below, size}
 use Rattle.order.specs.declared.event.Event.{Event}
 use Rattle.order.proofs.PostSets.{length-below-le, has-bound, rank-below}
 use Rattle.keeper.specs.Answers.{of-stamp, ask-stamp, ask-append, admission}
-use Rattle.keeper.specs.Piles.{Stamp, no-stamp, entry-of, price}
+use Rattle.keeper.specs.Piles.{Stamp, no-stamp, entry-of}
 use Rattle.keeper.specs.declared.fault.KeeperFault.{KeeperFault}
 use Rattle.keeper.specs.declared.fault.KeeperFault.the-variants.{NotCovered}
 use Rattle.pool.specs.Layout.{cover-at, entries-at, stamp-at}

@@ -1,16 +1,14 @@
 -- Stamps one after another: where they start, and which are a post's.
 use mathlib.Core.Path.{_≡_, refl, sym, ap, subst, _∙_}
-use mathlib.Core.Bool.{Bool, true, false}
+use mathlib.Core.Bool.{Bool}
 use mathlib.Core.List.{List, [], _∷_, _++_, map}
-use mathlib.Core.Logic.{_⊎_, inl, inr}
+use mathlib.Core.Logic.{inl, inr}
 use Prim.Native.Nat.{ℕ, zero, suc, _+_, _-_, _*_, _/_, _≤_, _<_}
 use native.Mathlib.Omega.{arith}
-use lib.Dec.{eqb}
 use lib.ListN.{length, getD, set}
 use Rattle.std.proofs.shelf.Lists.{append-nil, length-push, length-set, getD-append-left, getD-push, getD-set-same, getD-set-other}
 use Rattle.std.proofs.shelf.Tests.{cases-eq, cases-lt, cases-order, eq-eqb, ne-eqb}
-use Rattle.order.specs.Posts.{kept}
-use Rattle.order.specs.Posts.{size}
+use Rattle.order.specs.Posts.{kept, size}
 use Rattle.keeper.specs.Piles.{Stamp, price}
 use Rattle.pool.specs.Layout.{post-at, cover-at, link-at, past, with-mark-at}
 use Rattle.pool.specs.Stack.{start, places, newest-of, Laid}

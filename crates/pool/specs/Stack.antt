@@ -6,7 +6,7 @@ use lib.Dec.{eqb}
 use lib.ListN.{length, getD, replicate}
 use Rattle.order.specs.Posts.{kept}
 use Rattle.std.specs.shelf.Lists.{sum}
-use Rattle.keeper.specs.Piles.{Pile, Stamp}
+use Rattle.keeper.specs.Piles.{Pile}
 use Rattle.pool.specs.Layout.{post-at, link-at, stamp-at, past}
 use Rattle.pool.specs.declared.Index.{Index}
 

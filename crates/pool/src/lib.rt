@@ -237,12 +237,13 @@ pub impl<'a> Keeper for Pool<'a> as PoolKeeper {
     }
 
     fn mark(&mut self, event: Event) -> Result<(), KeeperFault> {
-        let at = self.find(event)? as usize;
+        let place = self.find(event)?;
+        let first = place as usize;
         // It cannot be in a pool that was opened.
-        if at >= self.cells.len() {
+        if first >= self.cells.len() {
             return Err(KeeperFault::NotHeld);
         }
-        self.cells[at] = self.cells[at] / 2 * 2 + 1;
+        self.cells[first] = self.cells[first] / 2 * 2 + 1;
         Ok(())
     }
 }

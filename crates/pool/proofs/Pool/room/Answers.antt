@@ -1,6 +1,5 @@
 use native.Mathlib.Omega.{arith}
-use mathlib.Core.Path.{_≡_, sym, ap, _∙_}
-use lib.ListN.{getD}
+use mathlib.Core.Path.{_≡_, sym}
 use Rattle.std.specs.declared.result.Result.the-variants.{Ok}
 use Rattle.pool.specs.Room.{asked}
 use Rattle.pool.proofs.Questions.{admitted, roomy}

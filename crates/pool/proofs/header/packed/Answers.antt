@@ -1,6 +1,6 @@
 use native.Mathlib.Omega.{arith}
 use mathlib.Core.Path.{_≡_, refl, ap, _∙_}
-use Prim.Native.Nat.{ℕ, _+_, _*_, _/_, _%_}
+use Prim.Native.Nat.{_+_, _*_, _/_, _%_}
 use Rattle.pool.specs.Layout.{mark-at, code-at, post-at, cover-at, full-at, link-at, kind-of}
 use Rattle.pool.proofs.header.packed.Needs as need
 
