@@ -16,10 +16,11 @@ use Rattle.keeper.specs.Moves.{Marks}
 use Rattle.keeper.specs.Piles.{Stamp, no-stamp, stamp-of, with-mark}
 use Rattle.keeper.specs.declared.fault.KeeperFault.{KeeperFault}
 use Rattle.pool.specs.Layout.{post-at, stamp-at, with-mark-at}
+use Rattle.pool.specs.Room.{finding}
 use Rattle.pool.specs.Stack.{start, places, total, pile, Sound}
 use Rattle.pool.specs.declared.Index.{Index}
 use Rattle.pool.proofs.Cells.{past-more, stamp-alike, stamp-marked}
-use Rattle.pool.proofs.Questions.{finding, Found, found, found-within, stamp-found, answered, not-answered}
+use Rattle.pool.proofs.Questions.{Found, found, found-within, stamp-found, answered, not-answered}
 use Rattle.pool.proofs.Stacks.{start-past, Starts, place-starts, places-ascend, Keeps, places-keeps, marked-keeps, laid-keeps, map-same}
 
 pub mark-fails

@@ -24,7 +24,7 @@ use Rattle.keeper.specs.Piles.{Stamp, no-stamp, entry-of}
 use Rattle.keeper.specs.declared.fault.KeeperFault.{KeeperFault}
 use Rattle.keeper.specs.declared.fault.KeeperFault.the-variants.{NotCovered}
 use Rattle.pool.specs.Layout.{cover-at, entries-at, stamp-at}
-use Rattle.pool.specs.Room.{asked}
+use Rattle.pool.specs.Room.{asked, finding}
 use Rattle.pool.specs.Stack.{places-of, total, pile, Sound}
 use Rattle.pool.specs.declared.Index.{Index}
 use Rattle.pool.proofs.Stacks.{start-less}
@@ -34,10 +34,6 @@ use Rattle.pool.proofs.Stacks.{start-less}
 pub record Held (posts count p k : ℕ) : Type 0 where
   pub known : ltb p posts ≡ true
   pub numbered : (ltb 0 k && leb k count) ≡ true
-
--- what find answers
-abbrev pub finding : Index → List ℕ → Event → Result ℕ KeeperFault
-finding ix cells e = of-stamp (ix .posts) (getD (ix .counts) (e .post) 0) (e .post) (e .number) (Ok (getD (places-of ix cells (e .post)) (e .number - 1) 0))
 
 of-held : {A : Type 0} (posts count p k : ℕ) (x : Result A KeeperFault) → Held posts count p k → of-stamp posts count p k x ≡ x
 of-held posts count p k x h = rw (h .known, h .numbered) refl

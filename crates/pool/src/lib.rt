@@ -15,12 +15,10 @@ ghost use Prim.Native.Nat.{_+_, _-_, _^_, _≤_, _<_};
 ghost use denote.Ref.{now as behind};
 ghost use lib.ListN.{length, getD};
 ghost use mathlib.Core.Path.{_≡_};
-ghost use Rattle.keeper.specs.Answers.{of-stamp};
 ghost use Rattle.keeper.specs.Piles.{fresh, opened};
 ghost use Rattle.pool.specs.Layout.{cover-at, link-at, with-stamp};
-ghost use Rattle.pool.specs.Room.{Rooms};
-ghost use Rattle.pool.specs.Stack.{Sound, pile, places-of, empty-index};
-ghost use Rattle.std.specs.declared.result.Result.the-variants.{Ok};
+ghost use Rattle.pool.specs.Room.{Rooms, finding};
+ghost use Rattle.pool.specs.Stack.{Sound, pile, empty-index};
 use header::kind_of;
 use header::packed;
 use keeper::Keeper;
@@ -136,7 +134,7 @@ impl Pool<'_> {
 
     // The place of a held stamp: from the post's newest back along the links.
     fn find(&self, event: Event) -> Result<u32, KeeperFault>
-        ensures { λ r. ⌜ (Sound (now (self .entry) .index) (now (now (self .entry) .cells)) → r ≡ of-stamp (now (self .entry) .index .posts) (getD (now (self .entry) .index .counts) (event .post) 0) (event .post) (event .number) (Ok (getD (places-of (now (self .entry) .index) (now (now (self .entry) .cells)) (event .post)) (event .number - 1) 0))) ⌝ }
+        ensures { λ r. ⌜ (Sound (now (self .entry) .index) (now (now (self .entry) .cells)) → r ≡ finding (now (self .entry) .index) (now (now (self .entry) .cells)) event) ⌝ }
     {
         let mut number = self.count_of(event.post);
         locate(self.index.posts, number, event)?;
