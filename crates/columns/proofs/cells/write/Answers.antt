@@ -1,0 +1,22 @@
+use mathlib.Core.Path.{refl, ap, sym, subst}
+use mathlib.Core.List.{List}
+use Prim.Native.Nat.{ℕ, _+_}
+use native.Mathlib.Omega.{arith}
+use lib.ListN.{length}
+use Rattle.std.proofs.shelf.Lists.{take-all}
+use Rattle.columns.specs.Cells.{whole, cell-at, Wrote}
+use Rattle.columns.proofs.Bytes.{is-put, wrote-none, wrote-more}
+use Rattle.columns.proofs.cells.write.Needs as need
+
+pub loop-i-holds : need.loop-i-holds
+loop-i-holds c = wrote-none (cell-at (c .args .bytes .now)) (c .args .at) (c .args .values .now)
+
+pub loop-i-again : need.loop-i-again
+loop-i-again c =
+    let put = is-put (cell-at (c .loop-i .bytes)) (cell-at (c .put-cell .last .bytes)) (c .args .at + c .loop-i .i) (whole (c .loop-i .bytes)) _ (c .put-cell .ensures) (omega arith) in
+    wrote-more (cell-at (c .args .bytes .now)) (cell-at (c .loop-i .bytes)) (cell-at (c .put-cell .last .bytes)) (c .args .at) (c .loop-i .i) _ (c .args .values .now) (omega arith) (c .loop-i .inv) refl (put .0) (put .1)
+
+pub returns : need.returns
+returns c =
+    λ _. subst (λ (vs : List ℕ). Wrote (cell-at (c .args .bytes .now)) (cell-at (c .loop-i .bytes)) (c .args .at) vs)
+    (take-all (c .loop-i .i) (c .args .values .now) (omega arith)) (c .loop-i .inv)

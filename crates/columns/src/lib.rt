@@ -1,0 +1,236 @@
+// A keeper of stamps over lent bytes: the cells, of two bytes each, are cut into one column of equal width for each
+// post, and a post's stamps lie in its own column only.
+ghost use Prim.Native.Nat.{ℕ, _+_, _-_, _*_, _/_, _^_, _<_, _≤_};
+ghost use denote.Ref.{now as held};
+ghost use lib.ListN.{length, getD};
+ghost use mathlib.Core.Path.{_≡_};
+ghost use Rattle.columns.specs.Cells.{whole, cell-at};
+ghost use Rattle.columns.specs.Layout.{kind-of, code-of, stamp-cell, Stored, Placed};
+ghost use Rattle.columns.specs.Sound.{Sound, pile, column-width};
+ghost use Rattle.keeper.specs.Answers.{of-stamp};
+ghost use Rattle.keeper.specs.Moves.{unmarked};
+ghost use Rattle.keeper.specs.Piles.{fresh, opened};
+ghost use Rattle.order.specs.Posts.{size};
+ghost use Rattle.std.specs.Vec.{made};
+ghost use Rattle.std.specs.declared.result.Result.the-variants.{Ok};
+use cells::cell;
+use cells::pair;
+use cells::put_cell;
+use cells::word;
+use cells::write;
+use keeper::Keeper;
+use keeper::admit::Header;
+use keeper::admit::admit;
+use keeper::admit::locate;
+use keeper::fault::KeeperFault;
+use order::event::Event;
+use order::event::Kind;
+use order::posts::MAX_POSTS;
+use order::posts::PostSet;
+
+mod cells;
+
+#[derive(Drop)]
+pub struct Columns<'a> {
+    bytes: &'a mut [u8],
+    posts: u8,
+    // The cells of a column.
+    width: usize,
+    // By post: its stamps, and the cells that it may still use.
+    counts: [u16; 64],
+    left: [usize; 64],
+}
+
+// A kind's code, and the kind by its code.
+fn code(kind: Kind) -> u16
+    ensures { λ r. ⌜ r ≡ code-of kind ⌝ }
+{
+    match kind {
+        Kind::Local => 0,
+        Kind::Send => 1,
+        Kind::Receive => 2,
+    }
+}
+
+fn kind_by(code: u16) -> Kind
+    ensures { λ r. ⌜ r ≡ kind-of code ⌝ }
+{
+    match code {
+        0 => Kind::Local,
+        1 => Kind::Send,
+        _ => Kind::Receive,
+    }
+}
+
+// Puts a stamp, unmarked, at a cell.
+fn put_stamp(bytes: &mut [u8], at: usize, header: Header, entries: &[u16])
+    ensures { λ _. ⌜ (at + 6 + length (now (entries .entry)) ≤ whole (now (bytes .entry)) → size (header .cover .bits) ≡ length (now (entries .entry)) → Stored (cell-at (now (bytes .entry))) (cell-at (now (bytes .exit))) at (unmarked header (now (entries .entry)))) ⌝ }
+{
+    let bits = header.cover.bits();
+    let head = [
+        code(header.kind),
+        (bits / 281474976710656) as u16,
+        (bits / 4294967296 % 65536) as u16,
+        (bits / 65536 % 65536) as u16,
+        (bits % 65536) as u16,
+        header.full,
+    ];
+    write(bytes, at, &head);
+    write(bytes, at.saturating_add(6), entries);
+}
+
+// Puts a place, a number of two cells, at a cell.
+fn put_place(bytes: &mut [u8], at: usize, place: usize)
+    ensures { λ _. ⌜ (at + 2 ≤ whole (now (bytes .entry)) → place < 4294967296 → Placed (cell-at (now (bytes .entry))) (cell-at (now (bytes .exit))) at place) ⌝ }
+{
+    let high = (place / 65536 % 65536) as u16;
+    write(bytes, at, &[high, (place % 65536) as u16]);
+}
+
+impl<'a> Columns<'a> {
+    // Cuts the bytes into columns. For more than 64 posts it is opened for none.
+    pub fn open(posts: u8, bytes: &'a mut [u8]) -> Columns<'a>
+        ensures sound { λ r. ⌜ Sound (r .posts) (r .width) (r .counts) (r .left) (now (r .bytes)) ⌝ }
+        ensures meaning { λ r. ⌜ pile (r .posts) (r .width) (r .counts) (r .left) (now (r .bytes)) ≡ fresh (opened posts) (λ _. column-width posts (length (now (bytes .entry)))) ⌝ }
+    {
+        let posts = if posts <= MAX_POSTS { posts } else { 0 };
+        let width = if posts > 0 {
+            bytes.len() / 2 / posts as usize
+        } else {
+            0
+        };
+        Columns {
+            bytes,
+            posts,
+            width,
+            counts: [0; 64],
+            left: [width; 64],
+        }
+    }
+
+    fn count_of(&self, post: u8) -> u16
+        ensures { λ r. ⌜ (length (now (self .entry) .counts) ≡ 64 → r ≡ getD (now (self .entry) .counts) post 0) ⌝ }
+    {
+        if post < MAX_POSTS {
+            self.counts[post as usize]
+        } else {
+            0
+        }
+    }
+
+    fn left_of(&self, post: u8) -> usize
+        ensures { λ r. ⌜ (length (now (self .entry) .left) ≡ 64 → r ≡ getD (now (self .entry) .left) post (now (self .entry) .width)) ⌝ }
+    {
+        if post < MAX_POSTS {
+            self.left[post as usize]
+        } else {
+            self.width
+        }
+    }
+
+    // The first cell of a post's column.
+    fn start_of(&self, post: u8) -> usize
+        ensures { λ r. ⌜ (post * now (self .entry) .width < 2 ^ 64 → r ≡ post * now (self .entry) .width) ⌝ }
+    {
+        self.width.saturating_mul(post as usize)
+    }
+
+    // The first of the two cells that hold the place of a stamp.
+    fn place_cell(&self, post: u8, number: usize) -> usize
+        ensures { λ r. ⌜ (post * now (self .entry) .width + now (self .entry) .width < 2 ^ 64 → r ≡ post * now (self .entry) .width + now (self .entry) .width - 2 * number) ⌝ }
+    {
+        let end = self.start_of(post).saturating_add(self.width);
+        end.saturating_sub(number.saturating_mul(2))
+    }
+
+    // The cell at which a held stamp begins.
+    fn find(&self, event: Event) -> Result<usize, KeeperFault>
+        ensures within { λ r. ⌜ made r (λ at. at ≤ whole (held (now (self .entry) .bytes))) ⌝ }
+        ensures found { λ r. ⌜ (Sound (now (self .entry) .posts) (now (self .entry) .width) (now (self .entry) .counts) (now (self .entry) .left) (held (now (self .entry) .bytes)) → r ≡ of-stamp (now (self .entry) .posts) (getD (now (self .entry) .counts) (event .post) 0) (event .post) (event .number) (Ok (stamp-cell (cell-at (held (now (self .entry) .bytes))) (event .post * now (self .entry) .width) (now (self .entry) .width) (event .number - 1)))) ⌝ }
+    {
+        locate(self.posts, self.count_of(event.post), event)?;
+        let place = pair(self.bytes, self.place_cell(event.post, event.number as usize));
+        let at = self.start_of(event.post).saturating_add(place as usize);
+        if at > self.bytes.len() / 2 {
+            return Err(KeeperFault::NotHeld);
+        }
+        Ok(at)
+    }
+}
+
+pub impl<'a> Keeper for Columns<'a> as ColumnsKeeper {
+    ghost meaning = { λ s. pile (s .posts) (s .width) (s .counts) (s .left) (held (s .bytes)) };
+
+    ghost sound = { λ s. Sound (s .posts) (s .width) (s .counts) (s .left) (held (s .bytes)) };
+
+    fn posts(&self) -> u8 {
+        self.posts
+    }
+
+    fn count(&self, post: u8) -> Result<u16, KeeperFault> {
+        if post >= self.posts {
+            return Err(KeeperFault::UnknownPost);
+        }
+        Ok(self.count_of(post))
+    }
+
+    fn space(&self, post: u8) -> Result<usize, KeeperFault> {
+        if post >= self.posts {
+            return Err(KeeperFault::UnknownPost);
+        }
+        Ok(self.left_of(post))
+    }
+
+    fn kind(&self, event: Event) -> Result<Kind, KeeperFault> {
+        let at = self.find(event)?;
+        Ok(kind_by(cell(self.bytes, at) % 256))
+    }
+
+    fn marked(&self, event: Event) -> Result<bool, KeeperFault> {
+        let at = self.find(event)?;
+        Ok(cell(self.bytes, at) / 256 == 1)
+    }
+
+    fn cover(&self, event: Event) -> Result<PostSet, KeeperFault> {
+        let at = self.find(event)?;
+        Ok(PostSet::from_bits(word(self.bytes, at + 1)))
+    }
+
+    fn full(&self, event: Event) -> Result<u16, KeeperFault> {
+        let at = self.find(event)?;
+        Ok(cell(self.bytes, at + 5))
+    }
+
+    fn entry(&self, event: Event, post: u8) -> Result<u16, KeeperFault> {
+        let at = self.find(event)?;
+        let cover = PostSet::from_bits(word(self.bytes, at + 1));
+        if !cover.contains(post) {
+            return Err(KeeperFault::NotCovered);
+        }
+        Ok(cell(self.bytes, at + 6 + cover.rank(post) as usize))
+    }
+
+    fn append(&mut self, post: u8, header: Header, entries: &[u16]) -> Result<(), KeeperFault> {
+        let count = self.count_of(post);
+        let left = self.left_of(post);
+        admit(self.posts, count, left, post, header.cover, entries.len())?;
+        if post >= MAX_POSTS {
+            return Err(KeeperFault::UnknownPost);
+        }
+        let front = self.width.saturating_sub(left).saturating_sub(2 * count as usize);
+        let at = self.start_of(post).saturating_add(front);
+        let back = self.place_cell(post, count as usize + 1);
+        put_stamp(self.bytes, at, header, entries);
+        put_place(self.bytes, back, front);
+        self.counts[post as usize] = count + 1;
+        self.left[post as usize] = left - entries.len() - 8;
+        Ok(())
+    }
+
+    fn mark(&mut self, event: Event) -> Result<(), KeeperFault> {
+        let at = self.find(event)?;
+        let kind = cell(self.bytes, at) % 256;
+        put_cell(self.bytes, at, 256 + kind);
+        Ok(())
+    }
+}
