@@ -4,10 +4,11 @@ use mathlib.Core.List.{List, [], _∷_, _++_, map}
 use mathlib.Core.Logic.{_⊎_, inl, inr}
 use Prim.Native.Nat.{ℕ, _+_, _-_, _*_, _/_, _%_, _<_, _≤_}
 use native.Mathlib.Omega.{arith}
-use native.Mathlib.Nat.{add-mul, one-mul, mul-le-mul-right}
+use native.Mathlib.Nat.{add-mul}
 use lib.ListN.{length, getD, set}
 use Rattle.std.specs.Iters.{counting}
-use Rattle.std.proofs.shelf.Counted.{getD-map-counting, map-counting-more}
+use Rattle.std.proofs.shelf.Bits.{mul-le}
+use Rattle.std.proofs.shelf.Counted.{map-counting-more}
 use Rattle.std.proofs.shelf.Tests.{cases-eq, cases-lt}
 use Rattle.order.specs.Posts.{size}
 use Rattle.keeper.specs.Piles.{Stamp, with-mark}
@@ -18,7 +19,7 @@ use Rattle.columns.proofs.Stamps.{counted-same, counted-set, stamp-same, stamp
 
 -- a column ends before a later one begins
 pub lanes-apart : (p q w : ℕ) → p < q → p * w + w ≤ q * w
-lanes-apart p q w l = ?
+lanes-apart p q w l = omega (arith, mul-le (p + 1) w q w (omega arith) (omega arith), add-mul p 1 w)
 
 -- where the end of a stamp is, by its place and its cover
 pub end-is : (c : ℕ → ℕ) (start width k : ℕ) → end-at c start width k ≡ place-at c start width k + 6 + size (stamp-at c (stamp-cell c start width k) .cover)

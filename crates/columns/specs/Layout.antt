@@ -5,7 +5,7 @@ use mathlib.Core.Logic.{_⊎_}
 use mathlib.Core.Path.{_≡_}
 use Prim.Native.Nat.{ℕ, _+_, _-_, _*_, _/_, _%_, _<_, _≤_}
 use lib.Dec.{eqb}
-use lib.ListN.{length}
+use lib.ListN.{length, getD}
 use Rattle.order.specs.Posts.{size}
 use Rattle.order.specs.declared.event.Kind.{Kind}
 use Rattle.order.specs.declared.event.Kind.the-variants.{Local, Send, Receive}
@@ -58,3 +58,11 @@ pub record Stored (c d : ℕ → ℕ) (at : ℕ) (s : Stamp) : Type 0 where
 pub record Placed (c d : ℕ → ℕ) (at place : ℕ) : Type 0 where
   pub there : pair-at d at ≡ place
   pub elsewhere : (j : ℕ) → (j < at) ⊎ (at + 2 ≤ j) → d j ≡ c j
+
+-- Stamp s lies at a cell, field by field.
+pub record Lies (c : ℕ → ℕ) (at : ℕ) (s : Stamp) : Type 0 where
+  pub kind : s .kind ≡ kind-of (c at % 256)
+  pub marked : s .marked ≡ eqb (c at / 256) 1
+  pub cover : s .cover ≡ word-at c (at + 1)
+  pub full : s .full ≡ c (at + 5)
+  pub entries : (i : ℕ) → i < size (s .cover) → getD (s .entries) i 0 ≡ c (at + 6 + i)

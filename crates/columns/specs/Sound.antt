@@ -2,12 +2,14 @@
 use mathlib.Core.Bool.{cond}
 use mathlib.Core.List.{List}
 use mathlib.Core.Path.{_≡_}
+use denote.Ref.{now}
 use Prim.Native.Nat.{ℕ, _+_, _-_, _*_, _/_, _<_, _≤_}
 use lib.Dec.{ltb}
 use lib.ListN.{length, getD}
 use Rattle.keeper.specs.Piles.{Pile, opened}
 use Rattle.columns.specs.Cells.{whole, cell-at}
-use Rattle.columns.specs.Layout.{place-at, end-at, stamps-of}
+use Rattle.columns.specs.Layout.{place-at, end-at, stamp-cell, stamps-of}
+use Rattle.columns.specs.declared.Columns.{Columns}
 
 -- The cells of a column, if so many bytes are cut for so many posts.
 abbrev pub column-width : ℕ → ℕ → ℕ
@@ -41,3 +43,17 @@ pile posts width counts left bytes =
       stamps = λ q. stamps-of (cell-at bytes) (q * width) width (getD counts q 0);
       space = λ q. getD left q width;
     }
+
+abbrev pub sound-of : Columns → Type 0
+sound-of s = Sound (s .posts) (s .width) (s .counts) (s .left) (now (s .bytes))
+
+abbrev pub pile-of : Columns → Pile
+pile-of s = pile (s .posts) (s .width) (s .counts) (s .left) (now (s .bytes))
+
+-- the cells that a keeper holds
+abbrev pub cells-of : Columns → ℕ → ℕ
+cells-of s = cell-at (now (s .bytes))
+
+-- the cell at which stamp k of post p begins, from 1 on
+abbrev pub cell-of : Columns → ℕ → ℕ → ℕ
+cell-of s p k = stamp-cell (cells-of s) (p * s .width) (s .width) (k - 1)

@@ -1,15 +1,14 @@
 // A keeper of stamps over lent bytes: the cells, of two bytes each, are cut into one column of equal width for each
 // post, and a post's stamps lie in its own column only.
 ghost use Prim.Native.Nat.{ℕ, _+_, _-_, _*_, _/_, _^_, _<_, _≤_};
-ghost use denote.Ref.{now as held};
 ghost use lib.ListN.{length, getD};
 ghost use mathlib.Core.Path.{_≡_};
 ghost use Rattle.columns.specs.Cells.{whole, cell-at};
-ghost use Rattle.columns.specs.Layout.{kind-of, code-of, stamp-cell, Stored, Placed};
-ghost use Rattle.columns.specs.Sound.{Sound, pile, column-width};
-ghost use Rattle.keeper.specs.Answers.{of-stamp};
+ghost use Rattle.columns.specs.Layout.{kind-of, code-of, Stored, Placed, Lies};
+ghost use Rattle.columns.specs.Sound.{column-width, sound-of, pile-of, cells-of, cell-of};
+ghost use Rattle.keeper.specs.Answers.{ask-stamp};
 ghost use Rattle.keeper.specs.Moves.{unmarked};
-ghost use Rattle.keeper.specs.Piles.{fresh, opened};
+ghost use Rattle.keeper.specs.Piles.{fresh, opened, stamp-of};
 ghost use Rattle.order.specs.Posts.{size};
 ghost use Rattle.std.specs.Vec.{made};
 ghost use Rattle.std.specs.declared.result.Result.the-variants.{Ok};
@@ -90,8 +89,8 @@ fn put_place(bytes: &mut [u8], at: usize, place: usize)
 impl<'a> Columns<'a> {
     // Cuts the bytes into columns. For more than 64 posts it is opened for none.
     pub fn open(posts: u8, bytes: &'a mut [u8]) -> Columns<'a>
-        ensures sound { λ r. ⌜ Sound (r .posts) (r .width) (r .counts) (r .left) (now (r .bytes)) ⌝ }
-        ensures meaning { λ r. ⌜ pile (r .posts) (r .width) (r .counts) (r .left) (now (r .bytes)) ≡ fresh (opened posts) (λ _. column-width posts (length (now (bytes .entry)))) ⌝ }
+        ensures sound { λ r. ⌜ sound-of r ⌝ }
+        ensures meaning { λ r. ⌜ pile-of r ≡ fresh (opened posts) (λ _. column-width posts (length (now (bytes .entry)))) ⌝ }
     {
         let posts = if posts <= MAX_POSTS { posts } else { 0 };
         let width = if posts > 0 {
@@ -145,8 +144,9 @@ impl<'a> Columns<'a> {
 
     // The cell at which a held stamp begins.
     fn find(&self, event: Event) -> Result<usize, KeeperFault>
-        ensures within { λ r. ⌜ made r (λ at. at ≤ whole (held (now (self .entry) .bytes))) ⌝ }
-        ensures found { λ r. ⌜ (Sound (now (self .entry) .posts) (now (self .entry) .width) (now (self .entry) .counts) (now (self .entry) .left) (held (now (self .entry) .bytes)) → r ≡ of-stamp (now (self .entry) .posts) (getD (now (self .entry) .counts) (event .post) 0) (event .post) (event .number) (Ok (stamp-cell (cell-at (held (now (self .entry) .bytes))) (event .post * now (self .entry) .width) (now (self .entry) .width) (event .number - 1)))) ⌝ }
+        ensures within { λ r. ⌜ made r (λ at. at ≤ whole (now (now (self .entry) .bytes))) ⌝ }
+        ensures answer { λ r. ⌜ (sound-of (now (self .entry)) → r ≡ ask-stamp (pile-of (now (self .entry))) event (λ _. Ok (cell-of (now (self .entry)) (event .post) (event .number)))) ⌝ }
+        ensures lies { λ r. ⌜ (sound-of (now (self .entry)) → made r (λ at. Lies (cells-of (now (self .entry))) at (stamp-of (pile-of (now (self .entry))) (event .post) (event .number)))) ⌝ }
     {
         locate(self.posts, self.count_of(event.post), event)?;
         let place = pair(self.bytes, self.place_cell(event.post, event.number as usize));
@@ -159,9 +159,9 @@ impl<'a> Columns<'a> {
 }
 
 pub impl<'a> Keeper for Columns<'a> as ColumnsKeeper {
-    ghost meaning = { λ s. pile (s .posts) (s .width) (s .counts) (s .left) (held (s .bytes)) };
+    ghost meaning = { pile-of };
 
-    ghost sound = { λ s. Sound (s .posts) (s .width) (s .counts) (s .left) (held (s .bytes)) };
+    ghost sound = { sound-of };
 
     fn posts(&self) -> u8 {
         self.posts

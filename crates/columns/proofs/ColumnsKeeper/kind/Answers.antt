@@ -1,8 +1,0 @@
-use Rattle.columns.proofs.ColumnsKeeper.kind.Needs as need
-
-pub returns-in-Break-at : need.returns-in-Break-at
-returns-in-Break-at c = ?
-
-pub returns : need.returns
-returns c = ?
-
