@@ -5,26 +5,29 @@ use mathlib.Core.List.{List, [], _∷_, _++_, map}
 use mathlib.Core.Logic.{_⊎_, inl, inr}
 use Prim.Native.Nat.{ℕ, _+_, _-_, _*_, _/_, _%_, _<_, _≤_, min}
 use native.Mathlib.Omega.{arith}
+use native.Mathlib.Nat.{mul-comm}
 use lib.Dec.{eqb, ltb, leb}
 use lib.ListN.{length, getD, set, replicate}
 use Rattle.std.specs.Iters.{counting}
+use Rattle.std.proofs.shelf.Bits.{div-add-mod'}
 use Rattle.std.proofs.shelf.Counted.{length-map-counting, getD-map-counting}
 use Rattle.std.proofs.shelf.Lists.{length-set, getD-set-same, getD-set-other, getD-past, getD-replicate, length-replicate}
 use Rattle.std.proofs.shelf.Tests.{cases-eq, cases-lt, cases-bool, and-parts, and-from, eqb-true, ltb-true, leb-true, lt-ltb, le-leb, cond-true, cond-false}
+use Rattle.std.proofs.shelf.Ways.{tells}
 use Rattle.std.specs.declared.result.Result.{Result}
 use Rattle.std.specs.declared.result.Result.the-variants.{Ok, Err}
-use Rattle.order.specs.Posts.{below, size}
+use Rattle.order.specs.Posts.{has, below, size}
 use Rattle.order.specs.declared.event.Event.{Event}
-use Rattle.order.proofs.PostSets.{length-below-le}
-use Rattle.keeper.specs.Answers.{of-stamp, fits, admission}
+use Rattle.order.proofs.PostSets.{has-bound, length-below-le, rank-below}
+use Rattle.keeper.specs.Answers.{of-stamp, fits, admission, ask-append}
 use Rattle.keeper.specs.Moves.{Appended, Marked, Appends, Marks, unmarked}
-use Rattle.keeper.specs.Piles.{Pile, Stamp, no-stamp, with-mark, fresh}
+use Rattle.keeper.specs.Piles.{Pile, Stamp, no-stamp, entry-of, with-mark, fresh, opened}
 use Rattle.keeper.specs.declared.admit.Header.{Header}
 use Rattle.keeper.specs.declared.fault.KeeperFault.{KeeperFault}
-use Rattle.keeper.specs.declared.fault.KeeperFault.the-variants.{UnknownPost, NotHeld}
+use Rattle.keeper.specs.declared.fault.KeeperFault.the-variants.{UnknownPost, NotHeld, NotCovered}
 use Rattle.columns.specs.Cells.{whole, cell-at, pair-at, word-at}
 use Rattle.columns.specs.Layout.{stamp-at, place-at, stamp-cell, stamps-of, Stored, Placed, Lies}
-use Rattle.columns.specs.Sound.{Sound, Column, pile, front-of}
+use Rattle.columns.specs.Sound.{Sound, Column, pile, front-of, column-width}
 use Rattle.columns.proofs.Bytes.{is-put}
 use Rattle.columns.proofs.Lanes.{lanes-apart, end-is, frame, frame-stamps, Grown, grown, column-grown, stamps-grown, column-marked, stamps-marked}
 
@@ -62,6 +65,23 @@ same-fault posts n m p k x y e same h =
         ap Err z ∙ sym (cond-true _ _ _ t ∙ cond-false _ _ _ (ap (λ (i : ℕ). ltb 0 k && leb k i) (sym same) ∙ u)) ]
     | inr t ↦ let q = h ∙ cond-false _ _ _ t in let z : e ≡ UnknownPost = cc in ap Err z ∙ sym (cond-false _ _ _ t) ]
 
+-- a held stamp is asked its field
+pub held-any : {A B : Type 0} (posts n p k : ℕ) (x y : A) (z : Result B KeeperFault) → Ok y ≡ of-stamp posts n p k (Ok x) → z ≡ of-stamp posts n p k z
+held-any posts n p k x y z e =
+    let h = held-tests posts n p k x y e in
+    sym (cond-true _ _ _ (lt-ltb p posts (h .1)) ∙ cond-true _ _ _ (and-from _ _ (lt-ltb 0 k (h .2)) (le-leb k n (h .3))))
+
+-- the entry for a covered post stands at its place among the covered posts
+pub covered : (c : ℕ → ℕ) (at : ℕ) (s : Stamp) (q bits : ℕ) → Lies c at s → bits ≡ word-at c (at + 1) → bits < 18446744073709551616 → has bits q ≡ true → Ok (c (at + 6 + length (below q bits))) ≡ cond (has (s .cover) q) (Ok (entry-of s q)) (Err NotCovered)
+covered c at s q bits lies e small h =
+    let same : s .cover ≡ bits = lies .cover ∙ sym e in
+    let place : length (below q bits) < size (s .cover) = omega (arith, rank-below q 64 bits (has-bound bits q small h) h, ap size same) in
+    ap Ok (sym (lies .entries (length (below q bits)) place) ∙ ap (λ (b : ℕ). getD (s .entries) (length (below q b)) 0) (sym same))
+    ∙ sym (cond-true _ _ _ (ap (λ (b : ℕ). has b q) same ∙ h))
+
+pub uncovered : (c : ℕ → ℕ) (at : ℕ) (s : Stamp) (q bits : ℕ) → Lies c at s → bits ≡ word-at c (at + 1) → has bits q ≡ false → Err NotCovered ≡ cond (has (s .cover) q) (Ok (entry-of s q)) (Err NotCovered)
+uncovered c at s q bits lies e h = sym (cond-false _ _ _ (ap (λ (b : ℕ). has b q) (lies .cover ∙ sym e) ∙ h))
+
 -- what an append that is let in has passed
 pub record Admitted (posts n space p bits m : ℕ) : Type 0 where
   pub known : p < posts
@@ -91,7 +111,14 @@ getD-replicate-all : (n a q : ℕ) → getD (replicate n a) q a ≡ a
 getD-replicate-all n a q =
     elim (cases-lt q n) [ inl l ↦ getD-replicate n q a a l | inr g ↦ getD-past (replicate n a) q a (omega (arith, length-replicate n a)) ]
 
-pub open-sound : (posts w : ℕ) (b : List ℕ) → posts ≤ 64 → posts * w ≤ whole b → Sound posts w (replicate 64 0) (replicate 64 w) b
+-- the columns lie within the whole cells
+width-inside : (n posts : ℕ) → posts * cond (ltb 0 posts) (n / posts) 0 ≤ n
+width-inside n posts =
+    elim (cases-lt 0 posts)
+    [ inl l ↦ rw (cond-true _ _ _ (lt-ltb 0 posts l)) (omega (arith, div-add-mod' n posts, mul-comm posts (n / posts)))
+    | inr g ↦ let z : posts ≡ 0 = omega arith in rw z (omega arith) ]
+
+open-sound : (posts w : ℕ) (b : List ℕ) → posts ≤ 64 → posts * w ≤ whole b → Sound posts w (replicate 64 0) (replicate 64 w) b
 open-sound posts w b few inside =
     record {
       few = few;
@@ -105,7 +132,7 @@ open-sound posts w b few inside =
     empty : (q : ℕ) → Column (cell-at b) (q * w) w 0 w
     empty q = record { room = omega arith; short = omega arith; within = λ k l. absurd (omega arith); apart = λ j k l h. absurd (omega arith) }
 
-pub open-pile : (posts w : ℕ) (b : List ℕ) → pile posts w (replicate 64 0) (replicate 64 w) b ≡ fresh posts (λ _. w)
+open-pile : (posts w : ℕ) (b : List ℕ) → pile posts w (replicate 64 0) (replicate 64 w) b ≡ fresh posts (λ _. w)
 open-pile posts w b =
     parts
     (fun-ext (λ q. ap (λ (n : ℕ). stamps-of (cell-at b) (q * w) w n) (getD-replicate-all 64 0 q)))
@@ -113,6 +140,14 @@ open-pile posts w b =
   where
     parts : {f g : ℕ → List Stamp} {s t : ℕ → ℕ} → f ≡ g → s ≡ t → _≡_ {A = Pile} record { posts = posts; stamps = f; space = s } record { posts = posts; stamps = g; space = t }
     parts p q = rw (p, q) refl
+
+pub open-all : (given posts w : ℕ) (b : List ℕ) → posts ≡ opened given → w ≡ cond (ltb 0 posts) (whole b / posts) 0 → Sound posts w (replicate 64 0) (replicate 64 w) b × (pile posts w (replicate 64 0) (replicate 64 w) b ≡ fresh (opened given) (λ _. column-width given (length b)))
+open-all given posts w b p-is w-is =
+    (open-sound posts w b few (subst (λ (n : ℕ). posts * n ≤ whole b) (sym w-is) (width-inside (whole b) posts)),
+    open-pile posts w b ∙ ap (λ (n : ℕ). fresh posts (λ _. n)) w-is ∙ ap (λ (n : ℕ). fresh n (λ _. cond (ltb 0 n) (whole b / n) 0)) p-is)
+  where
+    few : posts ≤ 64
+    few = grind (arith, tells)
 
 -- ---- an append and a mark
 
@@ -256,11 +291,17 @@ module _ (posts w : ℕ) (counts left b e : List ℕ) (p k : ℕ) (ok : Sound po
 
 -- ---- as the code does it
 
+-- the answer to an append, by the count and the space that the code reads
+pub answer-is : (posts w : ℕ) (counts left b : List ℕ) (p n l bits m : ℕ) (r : Result (Unit {0}) KeeperFault) → n ≡ getD counts p 0 → l ≡ getD left p w → r ≡ admission posts n l p bits m → r ≡ ask-append (pile posts w counts left b) p bits m
+answer-is posts w counts left b p n l bits m r n-is l-is e =
+    e ∙ ap (λ (i : ℕ). admission posts i l p bits m) (n-is ∙ sym (length-map-counting (λ k. stamp-at (cell-at b) (stamp-cell (cell-at b) (p * w) w k)) 0 (getD counts p 0)))
+    ∙ ap (λ (i : ℕ). admission posts (length (stamps-of (cell-at b) (p * w) w (getD counts p 0))) i p bits m) l-is
+
 pub append-all : (posts w : ℕ) (counts left b d e : List ℕ) (p n l front start at back : ℕ) (h : Header) (xs : List ℕ) → Sound posts w counts left b → n ≡ getD counts p 0 → l ≡ getD left p w → Ok tt ≡ admission posts n l p (h .cover .bits) (length xs) → length b < 18446744073709551616 → front ≡ w - l - 2 * n → (p * w < 18446744073709551616 → start ≡ p * w) → at ≡ min (start + front) 18446744073709551615 → (p * w + w < 18446744073709551616 → back ≡ p * w + w - 2 * (n + 1)) → (at + 6 + length xs ≤ whole b → size (h .cover .bits) ≡ length xs → Stored (cell-at b) (cell-at d) at (unmarked h xs)) → (back + 2 ≤ whole d → front < 4294967296 → Placed (cell-at d) (cell-at e) back front) → length d ≡ length b → length e ≡ length d → Sound posts w (set counts p (n + 1)) (set left p (l - length xs - 8)) e × Appends (pile posts w counts left b) (pile posts w (set counts p (n + 1)) (set left p (l - length xs - 8)) e) p h xs (Ok tt)
 append-all posts w counts left b d e p n l front start at back h xs ok n-is l-is let-in small front-is start-is at-is back-is stored placed d-long e-long =
     (append-sound posts w counts left b e p n l (length xs) (unmarked h xs) ok (pass .known) n-is l-is g refl (pass .paid) few (pass .sized) (e-long ∙ d-long),
     record {
-      answer = let-in ∙ ap (λ (i : ℕ). admission posts i l p (h .cover .bits) (length xs)) (n-is ∙ sym (length-map-counting _ 0 (getD counts p 0))) ∙ ap (λ (i : ℕ). admission posts (length (stamps-of (cell-at b) (p * w) w (getD counts p 0))) i p (h .cover .bits) (length xs)) l-is;
+      answer = answer-is posts w counts left b p n l (h .cover .bits) (length xs) (Ok tt) n-is l-is let-in;
       leaves = append-pile posts w counts left b e p n l (length xs) (unmarked h xs) ok (pass .known) n-is l-is g refl (pass .paid) few (pass .sized) (e-long ∙ d-long);
     })
   where

@@ -127,6 +127,12 @@ impl<'a> Columns<'a> {
         }
     }
 
+    fn cell(&self, i: usize) -> u16
+        ensures { λ r. ⌜ r ≡ cells-of (now (self .entry)) i ⌝ }
+    {
+        cell(self.bytes, i)
+    }
+
     // The first cell of a post's column.
     fn start_of(&self, post: u8) -> usize
         ensures { λ r. ⌜ (post * now (self .entry) .width < 2 ^ 64 → r ≡ post * now (self .entry) .width) ⌝ }
@@ -183,12 +189,12 @@ pub impl<'a> Keeper for Columns<'a> as ColumnsKeeper {
 
     fn kind(&self, event: Event) -> Result<Kind, KeeperFault> {
         let at = self.find(event)?;
-        Ok(kind_by(cell(self.bytes, at) % 256))
+        Ok(kind_by(self.cell(at) % 256))
     }
 
     fn marked(&self, event: Event) -> Result<bool, KeeperFault> {
         let at = self.find(event)?;
-        Ok(cell(self.bytes, at) / 256 == 1)
+        Ok(self.cell(at) / 256 == 1)
     }
 
     fn cover(&self, event: Event) -> Result<PostSet, KeeperFault> {
@@ -198,7 +204,7 @@ pub impl<'a> Keeper for Columns<'a> as ColumnsKeeper {
 
     fn full(&self, event: Event) -> Result<u16, KeeperFault> {
         let at = self.find(event)?;
-        Ok(cell(self.bytes, at + 5))
+        Ok(self.cell(at + 5))
     }
 
     fn entry(&self, event: Event, post: u8) -> Result<u16, KeeperFault> {
@@ -207,7 +213,7 @@ pub impl<'a> Keeper for Columns<'a> as ColumnsKeeper {
         if !cover.contains(post) {
             return Err(KeeperFault::NotCovered);
         }
-        Ok(cell(self.bytes, at + 6 + cover.rank(post) as usize))
+        Ok(self.cell(at + 6 + cover.rank(post) as usize))
     }
 
     fn append(&mut self, post: u8, header: Header, entries: &[u16]) -> Result<(), KeeperFault> {
@@ -229,7 +235,7 @@ pub impl<'a> Keeper for Columns<'a> as ColumnsKeeper {
 
     fn mark(&mut self, event: Event) -> Result<(), KeeperFault> {
         let at = self.find(event)?;
-        let kind = cell(self.bytes, at) % 256;
+        let kind = self.cell(at) % 256;
         put_cell(self.bytes, at, 256 + kind);
         Ok(())
     }

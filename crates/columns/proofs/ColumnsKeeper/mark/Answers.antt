@@ -1,12 +1,20 @@
+use mathlib.Core.Path.{refl}
+use Prim.Native.Nat.{_+_, _%_}
 use native.Mathlib.Omega.{arith}
-use Rattle.columns.proofs.Answered.{mark-all}
+use Rattle.std.proofs.shelf.Results.{err-from-errBy}
+use Rattle.columns.proofs.Answered.{same-fault, mark-all}
 use Rattle.columns.proofs.ColumnsKeeper.mark.Needs as need
 
 pub returns-in-Break-at : need.returns-in-Break-at
-returns-in-Break-at c = ?
+returns-in-Break-at c =
+    λ ok.
+    let s = c .args .self .now in
+    let p = err-from-errBy (c .from-residual .result) (c .from-residual .ensures .1) in
+    rw (p .1, p .2)
+    (ok, record { answer = same-fault (s .posts) _ _ (c .args .event .post) (c .args .event .number) _ _ _ refl (c .in-Break-at .ensures tt .answer ok); leaves = refl })
 
 pub returns : need.returns
 returns c =
     λ ok.
     let s = c .args .self .now in
-    mark-all (s .posts) (s .width) (s .counts) (s .left) (s .bytes .now) _ (c .args .event) (c .in-Continue-at .at) _ ok (c .in-Continue-at .ensures tt .answer ok) ? (c .put-cell .ensures) ?
+    mark-all (s .posts) (s .width) (s .counts) (s .left) (s .bytes .now) (c .put-cell .last .bytes) (c .args .event) (c .in-Continue-at .at) (256 + c .cell-kind .result % 256) ok (c .in-Continue-at .ensures tt .answer ok) (omega arith) (c .put-cell .ensures) (omega arith)
