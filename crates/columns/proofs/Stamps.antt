@@ -12,13 +12,14 @@ use Rattle.std.proofs.shelf.Counted.{length-map-counting, getD-map-counting, fi
 use Rattle.std.proofs.shelf.Lists.{same-lists, length-set, getD-set-same, getD-set-other}
 use Rattle.std.proofs.shelf.Tests.{cases-eq, eq-eqb}
 use Rattle.order.specs.Posts.{size}
+use Rattle.order.specs.Records.{code, kind-named}
 use Rattle.order.specs.declared.event.Kind.{Kind}
 use Rattle.order.specs.declared.event.Kind.the-variants.{Local, Send, Receive}
 use Rattle.keeper.specs.Piles.{Stamp, with-mark}
 use Rattle.keeper.specs.Moves.{unmarked}
 use Rattle.keeper.specs.declared.admit.Header.{Header}
 use Rattle.columns.specs.Cells.{pair-at, word-at, Wrote}
-use Rattle.columns.specs.Layout.{kind-of, code-of, stamp-at, Stored, Placed}
+use Rattle.columns.specs.Layout.{stamp-at, Stored, Placed}
 
 -- ---- lists by a function of the index
 
@@ -50,7 +51,7 @@ word-same c d i same =
 abbrev headed : (ℕ → ℕ) → ℕ → ℕ → Stamp
 headed c at first =
     record {
-      kind = kind-of (first % 256);
+      kind = kind-named (first % 256);
       marked = eqb (first / 256) 1;
       cover = word-at c (at + 1);
       full = c (at + 5);
@@ -80,19 +81,19 @@ pub stamp-marked : (c d : ℕ → ℕ) (at : ℕ) → d at ≡ 256 + c at % 256 
 unfolding stamp-at
 stamp-marked c d at first same =
     tail-same c d at (λ j l h. same j (λ e. omega arith))
-    ∙ parts (ap kind-of code) (eq-eqb (d at / 256) 1 (omega arith)) refl refl refl
+    ∙ parts (ap kind-named same-code) (eq-eqb (d at / 256) 1 (omega arith)) refl refl refl
   where
-    code : d at % 256 ≡ c at % 256
-    code = omega arith
+    same-code : d at % 256 ≡ c at % 256
+    same-code = omega arith
 
 -- ---- a stamp put
 
-code-kind : (k : Kind) → kind-of (code-of k % 256) ≡ k
+code-kind : (k : Kind) → kind-named (code k % 256) ≡ k
 code-kind Local = refl
 code-kind Send = refl
 code-kind Receive = refl
 
-code-unmarked : (k : Kind) → eqb (code-of k / 256) 1 ≡ false
+code-unmarked : (k : Kind) → eqb (code k / 256) 1 ≡ false
 code-unmarked Local = refl
 code-unmarked Send = refl
 code-unmarked Receive = refl
@@ -102,13 +103,13 @@ abbrev pub heading : ℕ → ℕ → ℕ → List ℕ
 heading kind bits full =
     kind ∷ bits / 281474976710656 ∷ bits / 4294967296 % 65536 ∷ bits / 65536 % 65536 ∷ bits % 65536 ∷ full ∷ []
 
-pub stored : (c d e : ℕ → ℕ) (at : ℕ) (h : Header) (xs : List ℕ) → Wrote c d at (heading (code-of (h .kind)) (h .cover .bits) (h .full)) → Wrote d e (at + 6) xs → size (h .cover .bits) ≡ length xs → Stored c e at (unmarked h xs)
+pub stored : (c d e : ℕ → ℕ) (at : ℕ) (h : Header) (xs : List ℕ) → Wrote c d at (heading (code (h .kind)) (h .cover .bits) (h .full)) → Wrote d e (at + 6) xs → size (h .cover .bits) ≡ length xs → Stored c e at (unmarked h xs)
 unfolding stamp-at
 stored c d e at h xs head tail sized =
     record {
       stamp =
         parts
-        (ap (λ (n : ℕ). kind-of (n % 256)) (first 0 at (omega arith) (omega arith)) ∙ code-kind (h .kind))
+        (ap (λ (n : ℕ). kind-named (n % 256)) (first 0 at (omega arith) (omega arith)) ∙ code-kind (h .kind))
         (ap (λ (n : ℕ). eqb (n / 256) 1) (first 0 at (omega arith) (omega arith)) ∙ code-unmarked (h .kind))
         bits
         (first 5 (at + 5) (omega arith) (omega arith))
@@ -120,7 +121,7 @@ stored c d e at h xs head tail sized =
         ∙ head .elsewhere j (elim l [ inl b ↦ inl b | inr a ↦ inr (omega arith) ]);
     }
   where
-    first : (i j : ℕ) → at + i ≡ j → i < 6 → e j ≡ getD (heading (code-of (h .kind)) (h .cover .bits) (h .full)) i 0
+    first : (i j : ℕ) → at + i ≡ j → i < 6 → e j ≡ getD (heading (code (h .kind)) (h .cover .bits) (h .full)) i 0
     first i j p l = ap e (sym p) ∙ tail .elsewhere (at + i) (inl (omega arith)) ∙ head .there i l
 
     bits : word-at e (at + 1) ≡ h .cover .bits

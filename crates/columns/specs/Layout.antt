@@ -1,5 +1,4 @@
 -- How a stamp lies in cells, and where the stamps of a column lie.
-use mathlib.Core.Bool.{cond}
 use mathlib.Core.List.{List, map}
 use mathlib.Core.Logic.{_⊎_}
 use mathlib.Core.Path.{_≡_}
@@ -7,27 +6,17 @@ use Prim.Native.Nat.{ℕ, _+_, _-_, _*_, _/_, _%_, _<_, _≤_}
 use lib.Dec.{eqb}
 use lib.ListN.{length, getD}
 use Rattle.order.specs.Posts.{size}
-use Rattle.order.specs.declared.event.Kind.{Kind}
-use Rattle.order.specs.declared.event.Kind.the-variants.{Local, Send, Receive}
+use Rattle.order.specs.Records.{kind-named}
 use Rattle.std.specs.Iters.{counting}
 use Rattle.keeper.specs.Piles.{Stamp}
 use Rattle.columns.specs.Cells.{pair-at, word-at}
-
--- a kind by its code
-abbrev pub kind-of : ℕ → Kind
-kind-of n = cond (eqb n 0) Local (cond (eqb n 1) Send Receive)
-
-abbrev pub code-of : Kind → ℕ
-code-of Local = 0
-code-of Send = 1
-code-of Receive = 2
 
 -- The stamp that lies at a cell: first the kind's code, and 256 more if it is marked; the cover in four cells; the
 -- latest full number; then the entries, as many as the cover has posts.
 unfoldable pub stamp-at : (ℕ → ℕ) → ℕ → Stamp
 stamp-at c at =
     record {
-      kind = kind-of (c at % 256);
+      kind = kind-named (c at % 256);
       marked = eqb (c at / 256) 1;
       cover = word-at c (at + 1);
       full = c (at + 5);
@@ -61,7 +50,7 @@ pub record Placed (c d : ℕ → ℕ) (at place : ℕ) : Type 0 where
 
 -- Stamp s lies at a cell, field by field.
 pub record Lies (c : ℕ → ℕ) (at : ℕ) (s : Stamp) : Type 0 where
-  pub kind : s .kind ≡ kind-of (c at % 256)
+  pub kind : s .kind ≡ kind-named (c at % 256)
   pub marked : s .marked ≡ eqb (c at / 256) 1
   pub cover : s .cover ≡ word-at c (at + 1)
   pub full : s .full ≡ c (at + 5)

@@ -4,12 +4,13 @@ ghost use Prim.Native.Nat.{ℕ, _+_, _-_, _*_, _/_, _^_, _<_, _≤_};
 ghost use lib.ListN.{length, getD};
 ghost use mathlib.Core.Path.{_≡_};
 ghost use Rattle.columns.specs.Cells.{whole, cell-at};
-ghost use Rattle.columns.specs.Layout.{kind-of, code-of, Stored, Placed, Lies};
+ghost use Rattle.columns.specs.Layout.{Stored, Placed, Lies};
 ghost use Rattle.columns.specs.Sound.{column-width, sound-of, pile-of, cells-of, cell-of};
 ghost use Rattle.keeper.specs.Answers.{ask-stamp};
-ghost use Rattle.keeper.specs.Moves.{unmarked};
+ghost use Rattle.keeper.specs.Moves.{Appends, unmarked};
 ghost use Rattle.keeper.specs.Piles.{fresh, opened, stamp-of};
 ghost use Rattle.order.specs.Posts.{size};
+ghost use Rattle.order.specs.Records.{code as code-of, kind-named};
 ghost use Rattle.std.specs.Vec.{made};
 ghost use Rattle.std.specs.declared.result.Result.the-variants.{Ok};
 use cells::cell;
@@ -40,6 +41,26 @@ pub struct Columns<'a> {
     left: [usize; 64],
 }
 
+// Cuts the bytes into columns. For more than 64 posts it is opened for none.
+pub fn open<'a>(posts: u8, bytes: &'a mut [u8]) -> Columns<'a>
+    ensures sound { λ r. ⌜ sound-of r ⌝ }
+    ensures meaning { λ r. ⌜ pile-of r ≡ fresh (opened posts) (λ _. column-width posts (length (now (bytes .entry)))) ⌝ }
+{
+    let posts = if posts <= MAX_POSTS { posts } else { 0 };
+    let width = if posts > 0 {
+        bytes.len() / 2 / posts as usize
+    } else {
+        0
+    };
+    Columns {
+        bytes,
+        posts,
+        width,
+        counts: [0; 64],
+        left: [width; 64],
+    }
+}
+
 // A kind's code, and the kind by its code.
 fn code(kind: Kind) -> u16
     ensures { λ r. ⌜ r ≡ code-of kind ⌝ }
@@ -52,7 +73,7 @@ fn code(kind: Kind) -> u16
 }
 
 fn kind_by(code: u16) -> Kind
-    ensures { λ r. ⌜ r ≡ kind-of code ⌝ }
+    ensures { λ r. ⌜ r ≡ kind-named code ⌝ }
 {
     match code {
         0 => Kind::Local,
@@ -86,44 +107,24 @@ fn put_place(bytes: &mut [u8], at: usize, place: usize)
     write(bytes, at, &[high, (place % 65536) as u16]);
 }
 
-impl<'a> Columns<'a> {
-    // Cuts the bytes into columns. For more than 64 posts it is opened for none.
-    pub fn open(posts: u8, bytes: &'a mut [u8]) -> Columns<'a>
-        ensures sound { λ r. ⌜ sound-of r ⌝ }
-        ensures meaning { λ r. ⌜ pile-of r ≡ fresh (opened posts) (λ _. column-width posts (length (now (bytes .entry)))) ⌝ }
-    {
-        let posts = if posts <= MAX_POSTS { posts } else { 0 };
-        let width = if posts > 0 {
-            bytes.len() / 2 / posts as usize
-        } else {
-            0
-        };
-        Columns {
-            bytes,
-            posts,
-            width,
-            counts: [0; 64],
-            left: [width; 64],
-        }
-    }
-
+impl Columns<'_> {
+    // How many stamps the post has.
     fn count_of(&self, post: u8) -> u16
-        ensures { λ r. ⌜ (length (now (self .entry) .counts) ≡ 64 → r ≡ getD (now (self .entry) .counts) post 0) ⌝ }
+        ensures { λ r. ⌜ r ≡ getD (now (self .entry) .counts) post 0 ⌝ }
     {
-        if post < MAX_POSTS {
-            self.counts[post as usize]
-        } else {
-            0
+        match self.counts.get(post as usize) {
+            Some(count) => *count,
+            None => 0,
         }
     }
 
+    // The cells that the post may still use.
     fn left_of(&self, post: u8) -> usize
-        ensures { λ r. ⌜ (length (now (self .entry) .left) ≡ 64 → r ≡ getD (now (self .entry) .left) post (now (self .entry) .width)) ⌝ }
+        ensures { λ r. ⌜ r ≡ getD (now (self .entry) .left) post (now (self .entry) .width) ⌝ }
     {
-        if post < MAX_POSTS {
-            self.left[post as usize]
-        } else {
-            self.width
+        match self.left.get(post as usize) {
+            Some(left) => *left,
+            None => self.width,
         }
     }
 
@@ -216,7 +217,11 @@ pub impl<'a> Keeper for Columns<'a> as ColumnsKeeper {
         Ok(self.cell(at + 6 + cover.rank(post) as usize))
     }
 
-    fn append(&mut self, post: u8, header: Header, entries: &[u16]) -> Result<(), KeeperFault> {
+    // What the trait says, and that the other posts' space stays as it is.
+    fn append(&mut self, post: u8, header: Header, entries: &[u16]) -> Result<(), KeeperFault>
+        ensures keeps { λ r. ⌜ (sound-of (now (self .entry)) → sound-of (now (self .exit)) × Appends (pile-of (now (self .entry))) (pile-of (now (self .exit))) post header (now (entries .entry)) r) ⌝ }
+        ensures others { λ _. ⌜ ((q : ℕ) → (q ≡ post → ⊥) → pile-of (now (self .exit)) .space q ≡ pile-of (now (self .entry)) .space q) ⌝ }
+    {
         let count = self.count_of(post);
         let left = self.left_of(post);
         admit(self.posts, count, left, post, header.cover, entries.len())?;

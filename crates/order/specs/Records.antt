@@ -48,6 +48,10 @@ code Local = 0
 code Send = 1
 code Receive = 2
 
+-- the kind with this code
+abbrev pub kind-named : ℕ → Kind
+kind-named code = cond (eqb code 0) Local (cond (eqb code 1) Send Receive)
+
 abbrev pub receives : Bytes → Bool
 receives r = eqb (kind r) 2
 

@@ -23,7 +23,7 @@ impl PostSet {
         PostSet { bits: 0 }
     }
 
-    // The set as a number, and back: what a keeper stores.
+    // The set as one number, bit q for post q, and back: for a store that has only numbers.
     pub fn bits(self) -> u64
         ensures { λ r. ⌜ r ≡ self .bits ⌝ }
     {

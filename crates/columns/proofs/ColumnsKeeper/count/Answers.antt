@@ -6,4 +6,4 @@ use Rattle.columns.proofs.ColumnsKeeper.count.Needs as need
 
 pub returns : need.returns
 returns c =
-    λ ok. ap Ok (c .count-of .ensures (ok .all-counted) ∙ sym (length-map-counting _ 0 _)) ∙ cond-below (c .args .post) (c .args .self .now .posts) _ _ (c .if-post-self .left)
+    λ ok. ap Ok (c .count-of .ensures ∙ sym (length-map-counting _ 0 _)) ∙ cond-below (c .args .post) (c .args .self .now .posts) _ _ (c .if-post-self .left)

@@ -7,8 +7,8 @@ use Rattle.std.proofs.shelf.Tests.{cond-true, cond-false, le-leb, lt-leb, lt-lt
 use Rattle.keeper.specs.Piles.{opened}
 use Rattle.columns.specs.Cells.{whole}
 use Rattle.columns.proofs.Answered.{open-all}
-use Rattle.columns.proofs.Columns.open.Needs as need
-use Rattle.columns.proofs.Columns.open.Needs.{then-posts-le-MAX-POSTS, else-posts-le-MAX-POSTS, then-posts-gt0, else-posts-gt0}
+use Rattle.columns.proofs.open.Needs as need
+use Rattle.columns.proofs.open.Needs.{then-posts-le-MAX-POSTS, else-posts-le-MAX-POSTS, then-posts-gt0, else-posts-gt0}
 
 pub returns : need.returns
 returns c =
