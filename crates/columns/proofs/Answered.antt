@@ -28,7 +28,6 @@ use Rattle.keeper.specs.declared.fault.KeeperFault.the-variants.{UnknownPost, N
 use Rattle.columns.specs.Cells.{whole, cell-at, pair-at, word-at}
 use Rattle.columns.specs.Layout.{stamp-at, place-at, stamp-cell, stamps-of, Stored, Placed, Lies}
 use Rattle.columns.specs.Sound.{Sound, Column, pile, front-of, column-width}
-use Rattle.columns.proofs.Bytes.{is-put}
 use Rattle.columns.proofs.Lanes.{lanes-apart, end-is, frame, frame-stamps, Grown, grown, column-grown, stamps-grown, column-marked, stamps-marked}
 
 -- ---- a field of a held stamp
@@ -39,12 +38,14 @@ refused q = let z : _≡_ {A = ℕ} 0 1 = cc in omega arith
 -- a stamp that is found is held
 pub held-tests : {A : Type 0} (posts n p k : ℕ) (x y : A) → _≡_ {A = Result A KeeperFault} (Ok y) (of-stamp posts n p k (Ok x)) → (y ≡ x) × (p < posts) × (0 < k) × (k ≤ n)
 held-tests posts n p k x y e =
-    elim (cases-bool (ltb p posts))
-    [ inl t ↦
-      elim (cases-bool (ltb 0 k && leb k n))
-      [ inl u ↦ let q = e ∙ cond-true _ _ _ t ∙ cond-true _ _ _ u in let b = and-parts _ _ u in (cc, ltb-true p posts t, ltb-true 0 k (b .0), leb-true k n (b .1))
-      | inr u ↦ let q = e ∙ cond-true _ _ _ t ∙ cond-false _ _ _ u in absurd (refused q) ]
-    | inr t ↦ let q = e ∙ cond-false _ _ _ t in absurd (refused q) ]
+    elim (cases-bool (ltb p posts)) [
+      | inl t ↦
+          elim (cases-bool (ltb 0 k && leb k n)) [
+            | inl u ↦ let q = e ∙ cond-true _ _ _ t ∙ cond-true _ _ _ u in let b = and-parts _ _ u in (cc, ltb-true p posts t, ltb-true 0 k (b .0), leb-true k n (b .1))
+            | inr u ↦ let q = e ∙ cond-true _ _ _ t ∙ cond-false _ _ _ u in absurd (refused q)
+          ]
+      | inr t ↦ let q = e ∙ cond-false _ _ _ t in absurd (refused q)
+    ]
 
 -- a held stamp's field
 pub held-field : {A : Type 0} (posts n p k : ℕ) (f : ℕ → Stamp) (field : Stamp → Result A KeeperFault) → (p < posts) × (0 < k) × (k ≤ n) → of-stamp posts (length (map f (counting 0 n))) p k (field (getD (map f (counting 0 n)) (k - 1) no-stamp)) ≡ field (f (k - 1))
@@ -56,14 +57,16 @@ held-field posts n p k f field h =
 -- a fault for a stamp is the fault for each question about it
 pub same-fault : {A B : Type 0} (posts n m p k : ℕ) (x : A) (y : Result B KeeperFault) (e : KeeperFault) → n ≡ m → Err e ≡ of-stamp posts n p k (Ok x) → Err e ≡ of-stamp posts m p k y
 same-fault posts n m p k x y e same h =
-    elim (cases-bool (ltb p posts))
-    [ inl t ↦
-      elim (cases-bool (ltb 0 k && leb k n))
-      [ inl u ↦ let q = h ∙ cond-true _ _ _ t ∙ cond-true _ _ _ u in let z : _≡_ {A = ℕ} 0 1 = cc in absurd (omega arith)
-      | inr u ↦ let q = h ∙ cond-true _ _ _ t ∙ cond-false _ _ _ u in
-        let z : e ≡ NotHeld = cc in
-        ap Err z ∙ sym (cond-true _ _ _ t ∙ cond-false _ _ _ (ap (λ (i : ℕ). ltb 0 k && leb k i) (sym same) ∙ u)) ]
-    | inr t ↦ let q = h ∙ cond-false _ _ _ t in let z : e ≡ UnknownPost = cc in ap Err z ∙ sym (cond-false _ _ _ t) ]
+    elim (cases-bool (ltb p posts)) [
+      | inl t ↦
+          elim (cases-bool (ltb 0 k && leb k n)) [
+            | inl u ↦ let q = h ∙ cond-true _ _ _ t ∙ cond-true _ _ _ u in let z : _≡_ {A = ℕ} 0 1 = cc in absurd (omega arith)
+            | inr u ↦ let q = h ∙ cond-true _ _ _ t ∙ cond-false _ _ _ u in
+                let z : e ≡ NotHeld = cc in
+                ap Err z ∙ sym (cond-true _ _ _ t ∙ cond-false _ _ _ (ap (λ (i : ℕ). ltb 0 k && leb k i) (sym same) ∙ u))
+          ]
+      | inr t ↦ let q = h ∙ cond-false _ _ _ t in let z : e ≡ UnknownPost = cc in ap Err z ∙ sym (cond-false _ _ _ t)
+    ]
 
 -- a held stamp is asked its field
 pub held-any : {A B : Type 0} (posts n p k : ℕ) (x y : A) (z : Result B KeeperFault) → Ok y ≡ of-stamp posts n p k (Ok x) → z ≡ of-stamp posts n p k z
@@ -92,18 +95,22 @@ pub record Admitted (posts n space p bits m : ℕ) : Type 0 where
 
 pub admitted : (posts n space p bits m : ℕ) → Ok tt ≡ admission posts n space p bits m → Admitted posts n space p bits m
 admitted posts n space p bits m e =
-    elim (cases-bool (ltb p posts))
-    [ inl a ↦
-      elim (cases-bool (fits posts bits m))
-      [ inl b ↦
-        elim (cases-bool (ltb n 65535))
-        [ inl c ↦
-          elim (cases-bool (leb (m + 8) space))
-          [ inl d ↦ let f = and-parts _ _ b in record { known = ltb-true p posts a; inside = eqb-true _ _ (f .0); sized = eqb-true _ _ (f .1); counted = ltb-true n 65535 c; paid = leb-true (m + 8) space d }
-          | inr d ↦ absurd (refused (e ∙ cond-true _ _ _ a ∙ cond-true _ _ _ b ∙ cond-true _ _ _ c ∙ cond-false _ _ _ d)) ]
-        | inr c ↦ absurd (refused (e ∙ cond-true _ _ _ a ∙ cond-true _ _ _ b ∙ cond-false _ _ _ c)) ]
-      | inr b ↦ absurd (refused (e ∙ cond-true _ _ _ a ∙ cond-false _ _ _ b)) ]
-    | inr a ↦ absurd (refused (e ∙ cond-false _ _ _ a)) ]
+    elim (cases-bool (ltb p posts)) [
+      | inl a ↦
+          elim (cases-bool (fits posts bits m)) [
+            | inl b ↦
+                elim (cases-bool (ltb n 65535)) [
+                  | inl c ↦
+                      elim (cases-bool (leb (m + 8) space)) [
+                        | inl d ↦ let f = and-parts _ _ b in record { known = ltb-true p posts a; inside = eqb-true _ _ (f .0); sized = eqb-true _ _ (f .1); counted = ltb-true n 65535 c; paid = leb-true (m + 8) space d }
+                        | inr d ↦ absurd (refused (e ∙ cond-true _ _ _ a ∙ cond-true _ _ _ b ∙ cond-true _ _ _ c ∙ cond-false _ _ _ d))
+                      ]
+                  | inr c ↦ absurd (refused (e ∙ cond-true _ _ _ a ∙ cond-true _ _ _ b ∙ cond-false _ _ _ c))
+                ]
+            | inr b ↦ absurd (refused (e ∙ cond-true _ _ _ a ∙ cond-false _ _ _ b))
+          ]
+      | inr a ↦ absurd (refused (e ∙ cond-false _ _ _ a))
+    ]
 
 -- ---- opening
 
@@ -114,9 +121,10 @@ getD-replicate-all n a q =
 -- the columns lie within the whole cells
 width-inside : (n posts : ℕ) → posts * cond (ltb 0 posts) (n / posts) 0 ≤ n
 width-inside n posts =
-    elim (cases-lt 0 posts)
-    [ inl l ↦ rw (cond-true _ _ _ (lt-ltb 0 posts l)) (omega (arith, div-add-mod' n posts, mul-comm posts (n / posts)))
-    | inr g ↦ let z : posts ≡ 0 = omega arith in rw z (omega arith) ]
+    elim (cases-lt 0 posts) [
+      | inl l ↦ rw (cond-true _ _ _ (lt-ltb 0 posts l)) (omega (arith, div-add-mod' n posts, mul-comm posts (n / posts)))
+      | inr g ↦ let z : posts ≡ 0 = omega arith in rw z (omega arith)
+    ]
 
 open-sound : (posts w : ℕ) (b : List ℕ) → posts ≤ 64 → posts * w ≤ whole b → Sound posts w (replicate 64 0) (replicate 64 w) b
 open-sound posts w b few inside =
@@ -142,9 +150,10 @@ open-pile posts w b =
     parts p q = rw (p, q) refl
 
 pub open-all : (given posts w : ℕ) (b : List ℕ) → posts ≡ opened given → w ≡ cond (ltb 0 posts) (whole b / posts) 0 → Sound posts w (replicate 64 0) (replicate 64 w) b × (pile posts w (replicate 64 0) (replicate 64 w) b ≡ fresh (opened given) (λ _. column-width given (length b)))
-open-all given posts w b p-is w-is =
-    (open-sound posts w b few (subst (λ (n : ℕ). posts * n ≤ whole b) (sym w-is) (width-inside (whole b) posts)),
-    open-pile posts w b ∙ ap (λ (n : ℕ). fresh posts (λ _. n)) w-is ∙ ap (λ (n : ℕ). fresh n (λ _. cond (ltb 0 n) (whole b / n) 0)) p-is)
+open-all given posts w b p-is w-is = (
+  open-sound posts w b few (subst (λ (n : ℕ). posts * n ≤ whole b) (sym w-is) (width-inside (whole b) posts)),
+  open-pile posts w b ∙ ap (λ (n : ℕ). fresh posts (λ _. n)) w-is ∙ ap (λ (n : ℕ). fresh n (λ _. cond (ltb 0 n) (whole b / n) 0)) p-is,
+)
   where
     few : posts ≤ 64
     few = grind (arith, tells)
@@ -164,10 +173,11 @@ module _ (posts w : ℕ) (counts left b e : List ℕ) (p : ℕ) (ok : Sound post
 
   other-stamps : stamps-of (cell-at e) (q * w) w (getD counts q 0) ≡ stamps-of (cell-at b) (q * w) w (getD counts q 0)
   other-stamps =
-      elim (cases-lt q posts)
-      [ inl l ↦ let col = ok .columns q l in let r = col .room in
-        frame-stamps (cell-at b) (cell-at e) (q * w) w (getD counts q 0) (getD left q w) col (λ j a h. outside j a (omega arith)) (λ j a h. outside j (omega arith) h)
-      | inr g ↦ rw (ok .idle q g) refl ]
+      elim (cases-lt q posts) [
+        | inl l ↦ let col = ok .columns q l in let r = col .room in
+            frame-stamps (cell-at b) (cell-at e) (q * w) w (getD counts q 0) (getD left q w) col (λ j a h. outside j a (omega arith)) (λ j a h. outside j (omega arith) h)
+        | inr g ↦ rw (ok .idle q g) refl
+      ]
 
 pub lane-inside : (posts w : ℕ) (counts left b : List ℕ) (p : ℕ) → Sound posts w counts left b → p < posts → p * w + w ≤ whole b
 lane-inside posts w counts left b p ok l = omega (arith, lanes-apart p posts w l, ok .inside)
@@ -200,7 +210,7 @@ module _ (posts w : ℕ) (counts left b : List ℕ) (p k n start back place at :
       let r = place-read ∙ ap (pair-at (cell-at b)) (back-is (omega arith)) ∙ sym (place-is (cell-at b) (p * w) w k (h .1)) in
       omega (arith, stamp-inside posts w counts left b p (k - 1) ok (h .0) (omega arith))
 
-  pub found-inside : at + 6 ≤ whole b
+  pub found-inside : at < whole b
   found-inside =
       let h = found-held in
       omega (arith, found-at, lane-inside posts w counts left b p ok (h .0), stamp-inside posts w counts left b p (k - 1) ok (h .0) (omega arith))
@@ -242,9 +252,10 @@ module _ (posts w : ℕ) (counts left b e : List ℕ) (p n l m : ℕ) (s : Stamp
         all-left = length-set left p (l - m - 8) ∙ ok .all-left;
         inside = omega (arith, ok .inside);
         columns = λ q h.
-          elim (cases-eq q p)
-          [ inl a ↦ rw (a, count-own, left-own) (column-grown (cell-at b) (cell-at e) (p * w) w n l m s own g paid few sized)
-          | inr ne ↦ rw (count-other q ne, left-other q ne) (other-column posts w counts left b e p ok outside-lane q ne h) ];
+            elim (cases-eq q p) [
+              | inl a ↦ rw (a, count-own, left-own) (column-grown (cell-at b) (cell-at e) (p * w) w n l m s own g paid few sized)
+              | inr ne ↦ rw (count-other q ne, left-other q ne) (other-column posts w counts left b e p ok outside-lane q ne h)
+            ];
         idle = λ q h. count-other q (λ a. omega arith) ∙ ok .idle q h;
       }
 
@@ -271,9 +282,10 @@ module _ (posts w : ℕ) (counts left b e : List ℕ) (p k : ℕ) (ok : Sound po
         all-left = ok .all-left;
         inside = omega (arith, ok .inside);
         columns = λ q h.
-          elim (cases-eq q p)
-          [ inl a ↦ rw a (column-marked (cell-at b) (cell-at e) (p * w) w (getD counts p 0) (getD left p w) (k - 1) (ok .columns p known) (omega arith) first same)
-          | inr ne ↦ other-column posts w counts left b e p ok off-lane q ne h ];
+            elim (cases-eq q p) [
+              | inl a ↦ rw a (column-marked (cell-at b) (cell-at e) (p * w) w (getD counts p 0) (getD left p w) (k - 1) (ok .columns p known) (omega arith) first same)
+              | inr ne ↦ other-column posts w counts left b e p ok off-lane q ne h
+            ];
         idle = ok .idle;
       }
 
@@ -282,9 +294,9 @@ module _ (posts w : ℕ) (counts left b e : List ℕ) (p k : ℕ) (ok : Sound po
       record {
         same-posts = refl;
         own =
-          stamps-marked (cell-at b) (cell-at e) (p * w) w (getD counts p 0) (getD left p w) (k - 1) (ok .columns p known) (omega arith) first same
-          ∙ ap (λ (s : Stamp). set (stamps-of (cell-at b) (p * w) w (getD counts p 0)) (k - 1) (with-mark s))
-          (sym (getD-map-counting (λ i. stamp-at (cell-at b) (stamp-cell (cell-at b) (p * w) w i)) 0 (getD counts p 0) (k - 1) (k - 1) no-stamp (omega arith) (omega arith)));
+            stamps-marked (cell-at b) (cell-at e) (p * w) w (getD counts p 0) (getD left p w) (k - 1) (ok .columns p known) (omega arith) first same
+            ∙ ap (λ (s : Stamp). set (stamps-of (cell-at b) (p * w) w (getD counts p 0)) (k - 1) (with-mark s))
+            (sym (getD-map-counting (λ i. stamp-at (cell-at b) (stamp-cell (cell-at b) (p * w) w i)) 0 (getD counts p 0) (k - 1) (k - 1) no-stamp (omega arith) (omega arith)));
         others = λ q ne. other-stamps posts w counts left b e p ok off-lane q ne;
         same-space = λ q. refl;
       }
@@ -297,47 +309,61 @@ answer-is posts w counts left b p n l bits m r n-is l-is e =
     e ∙ ap (λ (i : ℕ). admission posts i l p bits m) (n-is ∙ sym (length-map-counting (λ k. stamp-at (cell-at b) (stamp-cell (cell-at b) (p * w) w k)) 0 (getD counts p 0)))
     ∙ ap (λ (i : ℕ). admission posts (length (stamps-of (cell-at b) (p * w) w (getD counts p 0))) i p bits m) l-is
 
-pub append-all : (posts w : ℕ) (counts left b d e : List ℕ) (p n l front start at back : ℕ) (h : Header) (xs : List ℕ) → Sound posts w counts left b → n ≡ getD counts p 0 → l ≡ getD left p w → Ok tt ≡ admission posts n l p (h .cover .bits) (length xs) → length b < 18446744073709551616 → front ≡ w - l - 2 * n → (p * w < 18446744073709551616 → start ≡ p * w) → at ≡ min (start + front) 18446744073709551615 → (p * w + w < 18446744073709551616 → back ≡ p * w + w - 2 * (n + 1)) → (at + 6 + length xs ≤ whole b → size (h .cover .bits) ≡ length xs → Stored (cell-at b) (cell-at d) at (unmarked h xs)) → (back + 2 ≤ whole d → front < 4294967296 → Placed (cell-at d) (cell-at e) back front) → length d ≡ length b → length e ≡ length d → Sound posts w (set counts p (n + 1)) (set left p (l - length xs - 8)) e × Appends (pile posts w counts left b) (pile posts w (set counts p (n + 1)) (set left p (l - length xs - 8)) e) p h xs (Ok tt)
-append-all posts w counts left b d e p n l front start at back h xs ok n-is l-is let-in small front-is start-is at-is back-is stored placed d-long e-long =
-    (append-sound posts w counts left b e p n l (length xs) (unmarked h xs) ok (pass .known) n-is l-is g refl (pass .paid) few (pass .sized) (e-long ∙ d-long),
+-- An append that is let in, with what the code computes for it: the front, the column's start, where the stamp goes and
+-- where its place goes.
+module _ (posts w : ℕ) (counts left b : List ℕ) (p n l front start at back bits m : ℕ) (ok : Sound posts w counts left b) (n-is : n ≡ getD counts p 0) (l-is : l ≡ getD left p w) (let-in : Ok tt ≡ admission posts n l p bits m) (small : length b < 18446744073709551616) (front-is : front ≡ w - l - 2 * n) (start-is : p * w < 18446744073709551616 → start ≡ p * w) (at-is : at ≡ min (start + front) 18446744073709551615) (back-is : p * w + w < 18446744073709551616 → back ≡ p * w + w - 2 * (n + 1)) where
+  pass : Admitted posts n l p bits m
+  pass = admitted posts n l p bits m let-in
+
+  inside : p * w + w ≤ whole b
+  inside = lane-inside posts w counts left b p ok (pass .known)
+
+  column : Column (cell-at b) (p * w) w n l
+  column = rw (n-is, l-is) (ok .columns p (pass .known))
+
+  at-cell : at ≡ p * w + front-of w n l
+  at-cell = omega (arith, start-is (omega (arith, inside)), inside, column .room)
+
+  back-cell : back ≡ p * w + w - 2 * (n + 1)
+  back-cell = back-is (omega (arith, inside))
+
+  -- there is room for the stamp and for its place
+  pub append-fits : (p < 64) × (at + 6 + m ≤ back) × (back + 2 ≤ whole b)
+  append-fits =
+      let r = column .room in let i = inside in let q = pass .paid in
+      (omega (arith, pass .known, ok .few), omega (arith, at-cell, back-cell), omega (arith, back-cell))
+
+  pub append-all : (d e : List ℕ) (h : Header) (xs : List ℕ) → bits ≡ h .cover .bits → m ≡ length xs → (size (h .cover .bits) ≡ length xs → Stored (cell-at b) (cell-at d) at (unmarked h xs)) → (front < 4294967296 → Placed (cell-at d) (cell-at e) back front) → length e ≡ length b → Sound posts w (set counts p (n + 1)) (set left p (l - m - 8)) e × Appends (pile posts w counts left b) (pile posts w (set counts p (n + 1)) (set left p (l - m - 8)) e) p h xs (Ok tt)
+  append-all d e h xs bits-is m-is stored placed long = (
+    append-sound posts w counts left b e p n l m (unmarked h xs) ok (pass .known) n-is l-is g m-is (pass .paid) few sized long,
     record {
-      answer = answer-is posts w counts left b p n l (h .cover .bits) (length xs) (Ok tt) n-is l-is let-in;
-      leaves = append-pile posts w counts left b e p n l (length xs) (unmarked h xs) ok (pass .known) n-is l-is g refl (pass .paid) few (pass .sized) (e-long ∙ d-long);
-    })
-  where
-    pass : Admitted posts n l p (h .cover .bits) (length xs)
-    pass = admitted posts n l p (h .cover .bits) (length xs) let-in
+      answer = answer-is posts w counts left b p n l (h .cover .bits) (length xs) (Ok tt) n-is l-is (let-in ∙ ap (λ (i : ℕ). admission posts n l p i m) bits-is ∙ ap (admission posts n l p (h .cover .bits)) m-is);
+      leaves = append-pile posts w counts left b e p n l m (unmarked h xs) ok (pass .known) n-is l-is g m-is (pass .paid) few sized long;
+    },
+  )
+    where
+      few : m ≤ 64
+      few = omega (arith, pass .inside, length-below-le posts bits, ok .few)
 
-    few : length xs ≤ 64
-    few = omega (arith, pass .inside, length-below-le posts (h .cover .bits), ok .few)
+      sized : size (h .cover .bits) ≡ m
+      sized = ap size (sym bits-is) ∙ pass .sized
 
-    inside : p * w + w ≤ whole b
-    inside = lane-inside posts w counts left b p ok (pass .known)
+      g : Grown (cell-at b) (cell-at e) (p * w) w n l (unmarked h xs)
+      g =
+          grown (cell-at b) (cell-at d) (cell-at e) (p * w) w n l (unmarked h xs) (column .room) (omega (arith, pass .paid)) (sized ∙ m-is)
+          (subst (λ (i : ℕ). Stored (cell-at b) (cell-at d) i (unmarked h xs)) at-cell (stored (sized ∙ m-is)))
+          (subst (λ (i : ℕ). Placed (cell-at d) (cell-at e) (p * w + w - 2 * (n + 1)) i) front-is
+          (subst (λ (i : ℕ). Placed (cell-at d) (cell-at e) i front) back-cell
+          (placed (omega (arith, front-is, column .short, pass .counted)))))
 
-    col : Column (cell-at b) (p * w) w n l
-    col = rw (n-is, l-is) (ok .columns p (pass .known))
-
-    at-cell : at ≡ p * w + front-of w n l
-    at-cell = omega (arith, start-is (omega (arith, inside)), inside, col .room)
-
-    back-cell : back ≡ p * w + w - 2 * (n + 1)
-    back-cell = back-is (omega (arith, inside))
-
-    g : Grown (cell-at b) (cell-at e) (p * w) w n l (unmarked h xs)
-    g =
-        grown (cell-at b) (cell-at d) (cell-at e) (p * w) w n l (unmarked h xs) (col .room) (pass .paid) (pass .sized)
-        (subst (λ (i : ℕ). Stored (cell-at b) (cell-at d) i (unmarked h xs)) at-cell (stored (omega (arith, at-cell, inside, col .room, pass .paid)) (pass .sized)))
-        (subst (λ (i : ℕ). Placed (cell-at d) (cell-at e) (p * w + w - 2 * (n + 1)) i) front-is
-        (subst (λ (i : ℕ). Placed (cell-at d) (cell-at e) i front) back-cell
-        (placed (omega (arith, back-cell, inside, col .room, pass .paid)) (omega (arith, front-is, col .short, pass .counted)))))
-
-pub mark-all : (posts w : ℕ) (counts left b e : List ℕ) (ev : Event) (at v : ℕ) → Sound posts w counts left b → Ok at ≡ of-stamp posts (length (stamps-of (cell-at b) (ev .post * w) w (getD counts (ev .post) 0))) (ev .post) (ev .number) (Ok (stamp-cell (cell-at b) (ev .post * w) w (ev .number - 1))) → v ≡ 256 + cell-at b at % 256 → ((j : ℕ) → cell-at e j ≡ cond (eqb j at && ltb at (whole b)) v (cell-at b j)) → length e ≡ length b → Sound posts w counts left e × Marks (pile posts w counts left b) (pile posts w counts left e) ev (Ok tt)
-mark-all posts w counts left b e ev at v ok found v-is put long =
-    (mark-sound posts w counts left b e p k ok (held .1) (held .2) high first same long,
-    record {
-      answer = sym (held-field posts n p k (λ i. stamp-at (cell-at b) (stamp-cell (cell-at b) (p * w) w i)) (λ _. Ok tt) (held .1, held .2, high));
-      leaves = mark-pile posts w counts left b e p k ok (held .1) (held .2) high first same long;
-    })
+pub mark-all : (posts w : ℕ) (counts left b e : List ℕ) (ev : Event) (at : ℕ) → Sound posts w counts left b → Ok at ≡ of-stamp posts (length (stamps-of (cell-at b) (ev .post * w) w (getD counts (ev .post) 0))) (ev .post) (ev .number) (Ok (stamp-cell (cell-at b) (ev .post * w) w (ev .number - 1))) → cell-at e at ≡ 256 + cell-at b at % 256 → ((j : ℕ) → (j ≡ at → ⊥) → cell-at e j ≡ cell-at b j) → length e ≡ length b → Sound posts w counts left e × Marks (pile posts w counts left b) (pile posts w counts left e) ev (Ok tt)
+mark-all posts w counts left b e ev at ok found there elsewhere long = (
+  mark-sound posts w counts left b e p k ok (held .1) (held .2) high first same long,
+  record {
+    answer = sym (held-field posts n p k (λ i. stamp-at (cell-at b) (stamp-cell (cell-at b) (p * w) w i)) (λ _. Ok tt) (held .1, held .2, high));
+    leaves = mark-pile posts w counts left b e p k ok (held .1) (held .2) high first same long;
+  },
+)
   where
     p : ℕ
     p = ev .post
@@ -354,14 +380,8 @@ mark-all posts w counts left b e ev at v ok found v-is put long =
     high : k ≤ n
     high = omega (arith, held .3, length-map-counting (λ i. stamp-at (cell-at b) (stamp-cell (cell-at b) (p * w) w i)) 0 n)
 
-    low : at < whole b
-    low = omega (arith, held .0, lane-inside posts w counts left b p ok (held .1), stamp-inside posts w counts left b p (k - 1) ok (held .1) (omega (arith, held .2, high)))
-
-    facts : (cell-at e at ≡ v) × ((j : ℕ) → (j ≡ at → ⊥) → cell-at e j ≡ cell-at b j)
-    facts = is-put (cell-at b) (cell-at e) at (whole b) v put low
-
     first : cell-at e (stamp-cell (cell-at b) (p * w) w (k - 1)) ≡ 256 + cell-at b (stamp-cell (cell-at b) (p * w) w (k - 1)) % 256
-    first = rw (← held .0) (facts .0 ∙ v-is)
+    first = rw (← held .0) there
 
     same : (j : ℕ) → (j ≡ stamp-cell (cell-at b) (p * w) w (k - 1) → ⊥) → cell-at e j ≡ cell-at b j
-    same j ne = facts .1 j (λ q. ne (q ∙ held .0))
+    same j ne = elsewhere j (λ q. ne (q ∙ held .0))

@@ -1,14 +1,12 @@
 -- Cells of bytes: what reading one gives, and what putting one leaves.
 use mathlib.Core.Path.{_≡_, refl, sym, ap, _∙_}
-use mathlib.Core.Bool.{cond, true, false, _&&_}
 use mathlib.Core.List.{List, []}
 use mathlib.Core.Logic.{_⊎_, inl, inr, ⊎-elim, _≢_}
 use Prim.Native.Nat.{ℕ, _+_, _*_, _/_, _%_, _<_, _≤_}
 use native.Mathlib.Omega.{arith}
-use lib.Dec.{eqb, ltb}
 use lib.ListN.{length, getD, set, take}
 use Rattle.std.proofs.shelf.Lists.{length-set, getD-set-same, getD-set-other, getD-take, length-take-le}
-use Rattle.std.proofs.shelf.Tests.{cases-eq, cases-lt, cond-true, cond-false, lt-ltb, le-ltb, eq-eqb, ne-eqb, and-from, and-left}
+use Rattle.std.proofs.shelf.Tests.{cases-eq, cond-true, cond-false, lt-ltb, le-ltb}
 use Rattle.columns.specs.Cells.{whole, cell-at, pair-at, word-at, Wrote}
 
 pub cell-inside : (b : List ℕ) (i : ℕ) → i < whole b → cell-at b i ≡ 256 * getD b (2 * i) 0 + getD b (2 * i + 1) 0
@@ -43,18 +41,6 @@ module _ (b : List ℕ) (i v : ℕ) where
   unfolding cell-at
   put-other j ne = rw (put-length, byte-other (2 * j) (λ e. ne (omega arith)) (λ e. ne (omega arith)), byte-other (2 * j + 1) (λ e. ne (omega arith)) (λ e. ne (omega arith)))
 
-  pub put-cell : i < whole b → (j : ℕ) → cell-at (put b i v) j ≡ cond (eqb j i && ltb i (whole b)) v (cell-at b j)
-  put-cell h j =
-      elim (cases-eq j i)
-      [ inl e ↦ ap (cell-at (put b i v)) e ∙ put-same h ∙ sym (cond-true _ _ _ (and-from _ _ (eq-eqb j i e) (lt-ltb i (whole b) h)))
-      | inr ne ↦ put-other j ne ∙ sym (cond-false _ _ _ (and-left _ _ (ne-eqb j i ne))) ]
-
--- the two facts of a put, from what the code says of it
-pub is-put : (c d : ℕ → ℕ) (i n v : ℕ) → ((j : ℕ) → d j ≡ cond (eqb j i && ltb i n) v (c j)) → i < n → (d i ≡ v) × ((j : ℕ) → (j ≡ i → ⊥) → d j ≡ c j)
-is-put c d i n v e h =
-    (e i ∙ cond-true _ _ _ (and-from _ _ (eq-eqb i i refl) (lt-ltb i n h)),
-    λ j ne. e j ∙ cond-false _ _ _ (and-left _ _ (ne-eqb j i ne)))
-
 pub pair-outside : (b : List ℕ) (i : ℕ) → whole b ≤ i → 0 ≡ pair-at (cell-at b) i
 pair-outside b i h = omega (arith, cell-outside b i h, cell-outside b (i + 1) (omega arith))
 
@@ -72,10 +58,11 @@ wrote-more c d e at i v vs h w is here others =
     let more = length-take-le (i + 1) vs (omega arith) in
     record {
       there = λ k l.
-        getD-after k (omega arith)
-        (elim (cases-eq k i)
-        [ inl p ↦ ap (λ (n : ℕ). e (at + n)) p ∙ here ∙ sym is ∙ ap (λ (n : ℕ). getD vs n 0) (sym p)
-        | inr ne ↦ others (at + k) (λ q. ne (omega arith)) ∙ w .there k (omega arith) ∙ getD-take i vs k 0 (omega arith) ]);
+          getD-after k (omega arith)
+          (elim (cases-eq k i) [
+            | inl p ↦ ap (λ (n : ℕ). e (at + n)) p ∙ here ∙ sym is ∙ ap (λ (n : ℕ). getD vs n 0) (sym p)
+            | inr ne ↦ others (at + k) (λ q. ne (omega arith)) ∙ w .there k (omega arith) ∙ getD-take i vs k 0 (omega arith)
+          ]);
       elsewhere = λ j l. others j (λ q. omega arith) ∙ w .elsewhere j (⊎-elim (λ a. inl a) (λ a. inr (omega arith)) l);
     }
   where

@@ -105,9 +105,10 @@ module _ (c d : ℕ → ℕ) (start width n left m : ℕ) (s : Stamp) (col : Col
         short = omega (arith, col .short);
         within = λ k l. elim (cases-eq k n) [ inl e ↦ rw e (omega (arith, new-end)) | inr ne ↦ omega (arith, kept .within k (omega arith)) ];
         apart = λ j k l h.
-          elim (cases-eq k n)
-          [ inl e ↦ rw e (omega (arith, kept .within j (omega arith), g .place))
-          | inr ne ↦ kept .apart j k l (omega arith) ];
+            elim (cases-eq k n) [
+              | inl e ↦ rw e (omega (arith, kept .within j (omega arith), g .place))
+              | inr ne ↦ kept .apart j k l (omega arith)
+            ];
       }
 
   pub stamps-grown : stamps-of d start width (n + 1) ≡ stamps-of c start width n ++ s ∷ []
@@ -128,15 +129,17 @@ module _ (c d : ℕ → ℕ) (start width n left k : ℕ) (col : Column c start 
   others-marked : (i : ℕ) → i < n → (i ≡ k → ⊥) → stamp-at d (stamp-cell d start width i) ≡ stamp-at c (stamp-cell c start width i)
   others-marked i l ne =
       stamp-kept c d start width n left col i (place-marked i l)
-      (λ j g h. same j (λ e. elim (cases-lt i k)
-        [ inl b ↦ omega (arith, col .apart i k b held)
-        | inr a ↦ omega (arith, col .apart k i (omega arith) l, end-is c start width k) ]))
+      (λ j g h. same j (λ e. elim (cases-lt i k) [
+        | inl b ↦ omega (arith, col .apart i k b held)
+        | inr a ↦ omega (arith, col .apart k i (omega arith) l, end-is c start width k)
+      ]))
 
   cover-marked : (i : ℕ) → i < n → stamp-at d (stamp-cell d start width i) .cover ≡ stamp-at c (stamp-cell c start width i) .cover
   cover-marked i l =
-      elim (cases-eq i k)
-      [ inl e ↦ rw e (ap (λ (s : Stamp). s .cover) here-marked)
-      | inr ne ↦ ap (λ (s : Stamp). s .cover) (others-marked i l ne) ]
+      elim (cases-eq i k) [
+        | inl e ↦ rw e (ap (λ (s : Stamp). s .cover) here-marked)
+        | inr ne ↦ ap (λ (s : Stamp). s .cover) (others-marked i l ne)
+      ]
 
   pub column-marked : Column d start width n left
   column-marked =

@@ -27,19 +27,20 @@ pub counted-same : {X : Type 0} (f g : ℕ → X) (n : ℕ) → ((k : ℕ) → k
 counted-same f g n same =
     same-lists _ _ (length-map-counting g 0 n ∙ sym (length-map-counting f 0 n))
     (λ k d h.
-      let l : k < n = omega (arith, length-map-counting g 0 n) in
-      getD-map-counting g 0 n k k d l (omega arith) ∙ same k l ∙ sym (getD-map-counting f 0 n k k d l (omega arith)))
+    let l : k < n = omega (arith, length-map-counting g 0 n) in
+    getD-map-counting g 0 n k k d l (omega arith) ∙ same k l ∙ sym (getD-map-counting f 0 n k k d l (omega arith)))
 
 -- one place changed
 pub counted-set : {X : Type 0} (f g : ℕ → X) (n k : ℕ) (x : X) → k < n → ((i : ℕ) → i < n → (i ≡ k → ⊥) → g i ≡ f i) → g k ≡ x → map g (counting 0 n) ≡ set (map f (counting 0 n)) k x
 counted-set f g n k x below others here =
     same-lists _ _ (length-map-counting g 0 n ∙ sym (length-set (map f (counting 0 n)) k x ∙ length-map-counting f 0 n))
     (λ i d h.
-      let l : i < n = omega (arith, length-map-counting g 0 n) in
-      getD-map-counting g 0 n i i d l (omega arith)
-      ∙ elim (cases-eq i k)
-      [ inl e ↦ ap g e ∙ here ∙ sym (getD-set-same (map f (counting 0 n)) k x d (omega (arith, length-map-counting f 0 n))) ∙ ap (λ (m : ℕ). getD (set (map f (counting 0 n)) k x) m d) (sym e)
-      | inr ne ↦ others i l ne ∙ sym (getD-set-other (map f (counting 0 n)) k i x d ne ∙ getD-map-counting f 0 n i i d l (omega arith)) ])
+    let l : i < n = omega (arith, length-map-counting g 0 n) in
+    getD-map-counting g 0 n i i d l (omega arith)
+    ∙ elim (cases-eq i k) [
+      | inl e ↦ ap g e ∙ here ∙ sym (getD-set-same (map f (counting 0 n)) k x d (omega (arith, length-map-counting f 0 n))) ∙ ap (λ (m : ℕ). getD (set (map f (counting 0 n)) k x) m d) (sym e)
+      | inr ne ↦ others i l ne ∙ sym (getD-set-other (map f (counting 0 n)) k i x d ne ∙ getD-map-counting f 0 n i i d l (omega arith))
+    ])
 
 -- ---- a stamp stays
 
@@ -108,17 +109,17 @@ unfolding stamp-at
 stored c d e at h xs head tail sized =
     record {
       stamp =
-        parts
-        (ap (λ (n : ℕ). kind-named (n % 256)) (first 0 at (omega arith) (omega arith)) ∙ code-kind (h .kind))
-        (ap (λ (n : ℕ). eqb (n / 256) 1) (first 0 at (omega arith) (omega arith)) ∙ code-unmarked (h .kind))
-        bits
-        (first 5 (at + 5) (omega arith) (omega arith))
-        (ap (λ (n : ℕ). map (λ i. e (at + 6 + i)) (counting 0 (size n))) bits
-        ∙ ap (λ (n : ℕ). map (λ i. e (at + 6 + i)) (counting 0 n)) sized
-        ∙ sym (fill-by-all (λ i. e (at + 6 + i)) xs (length xs) 0 refl (λ k l. sym (tail .there k l))));
+          parts
+          (ap (λ (n : ℕ). kind-named (n % 256)) (first 0 at (omega arith) (omega arith)) ∙ code-kind (h .kind))
+          (ap (λ (n : ℕ). eqb (n / 256) 1) (first 0 at (omega arith) (omega arith)) ∙ code-unmarked (h .kind))
+          bits
+          (first 5 (at + 5) (omega arith) (omega arith))
+          (ap (λ (n : ℕ). map (λ i. e (at + 6 + i)) (counting 0 (size n))) bits
+          ∙ ap (λ (n : ℕ). map (λ i. e (at + 6 + i)) (counting 0 n)) sized
+          ∙ sym (fill-by-all (λ i. e (at + 6 + i)) xs (length xs) 0 refl (λ k l. sym (tail .there k l))));
       elsewhere = λ j l.
-        tail .elsewhere j (elim l [ inl b ↦ inl (omega arith) | inr a ↦ inr a ])
-        ∙ head .elsewhere j (elim l [ inl b ↦ inl b | inr a ↦ inr (omega arith) ]);
+          tail .elsewhere j (elim l [ inl b ↦ inl (omega arith) | inr a ↦ inr a ])
+          ∙ head .elsewhere j (elim l [ inl b ↦ inl b | inr a ↦ inr (omega arith) ]);
     }
   where
     first : (i j : ℕ) → at + i ≡ j → i < 6 → e j ≡ getD (heading (code (h .kind)) (h .cover .bits) (h .full)) i 0

@@ -1,8 +1,6 @@
 // Bytes as cells of two bytes each, the high byte first. All else in this crate speaks of cells only.
-ghost use Prim.Native.Nat.{ℕ, _+_, _≤_};
-ghost use lib.Dec.{eqb, ltb};
+ghost use Prim.Native.Nat.{ℕ, _+_, _<_, _≤_};
 ghost use lib.ListN.{length};
-ghost use mathlib.Core.Bool.{cond, _&&_};
 ghost use mathlib.Core.Path.{_≡_};
 ghost use Rattle.columns.specs.Cells.{whole, cell-at, pair-at, word-at, Wrote};
 
@@ -39,24 +37,21 @@ pub fn word(bytes: &[u8], i: usize) -> u64
     }
 }
 
-// Puts one cell; past the whole cells it changes nothing.
+// Puts one cell.
 pub fn put_cell(bytes: &mut [u8], i: usize, value: u16)
-    ensures { λ _. ⌜ ((j : ℕ) → cell-at (now (bytes .exit)) j ≡ cond (eqb j i && ltb i (whole (now (bytes .entry)))) value (cell-at (now (bytes .entry)) j)) ⌝ }
+    requires { ⌜ i < whole (now bytes) ⌝ }
+    ensures there { λ _. ⌜ cell-at (now (bytes .exit)) i ≡ value ⌝ }
+    ensures elsewhere { λ _. ⌜ ((j : ℕ) → (j ≡ i → ⊥) → cell-at (now (bytes .exit)) j ≡ cell-at (now (bytes .entry)) j) ⌝ }
 {
-    if i < bytes.len() / 2 {
-        bytes[2 * i] = (value / 256) as u8;
-        bytes[2 * i + 1] = (value % 256) as u8;
-    }
+    bytes[2 * i] = (value / 256) as u8;
+    bytes[2 * i + 1] = (value % 256) as u8;
 }
 
-// Puts cells one after another; where they do not all fit, it changes nothing.
+// Puts cells one after another.
 pub fn write(bytes: &mut [u8], at: usize, values: &[u16])
-    ensures { λ _. ⌜ (at + length (now (values .entry)) ≤ whole (now (bytes .entry)) → Wrote (cell-at (now (bytes .entry))) (cell-at (now (bytes .exit))) at (now (values .entry))) ⌝ }
+    requires { ⌜ at + length (now values) ≤ whole (now bytes) ⌝ }
+    ensures { λ _. ⌜ Wrote (cell-at (now (bytes .entry))) (cell-at (now (bytes .exit))) at (now (values .entry)) ⌝ }
 {
-    let room = bytes.len() / 2;
-    if at > room || values.len() > room - at {
-        return;
-    }
     for (i, value) in values.iter().enumerate() {
         put_cell(bytes, at + i, *value);
     }

@@ -1,5 +1,20 @@
-// A keeper of stamps over lent bytes: the cells, of two bytes each, are cut into one column of equal width for each
-// post, and a post's stamps lie in its own column only.
+// A keeper of stamps over lent bytes, two to a cell, cut into one column of equal width for each post. A post's stamps lie
+// in its own column only.
+//
+// From the front of a column lie the stamps, the oldest first, one right after another. A stamp takes six cells of header
+// and one for each entry:
+//
+//     0       the kind's code (0 local, 1 send, 2 receive), and 256 more once it is marked
+//     1 to 4  the cover's bits, the highest 16 first
+//     5       the number of the post's latest full event, or 0
+//     6 ..    the entries for the covered posts, ascending
+//
+// From the back of a column lie the places of its stamps, two cells for each, the higher half first: the last two cells
+// are the place of stamp 1, the two before them that of stamp 2, and so on. A place counts cells from the column's start,
+// so a stamp is found in one step. Header, entries and place come to the stamp's price. A post has at most 65,535 stamps
+// of at most 70 cells each, so two cells hold any place.
+//
+// Beside the bytes stand the number of posts, the width of a column, and for each post its count and the cells left.
 ghost use Prim.Native.Nat.{ℕ, _+_, _-_, _*_, _/_, _^_, _<_, _≤_};
 ghost use lib.ListN.{length, getD};
 ghost use mathlib.Core.Path.{_≡_};
@@ -36,12 +51,12 @@ pub struct Columns<'a> {
     posts: u8,
     // The cells of a column.
     width: usize,
-    // By post: its stamps, and the cells that it may still use.
+    // For each post, how many stamps it has, and the cells that it may still use.
     counts: [u16; 64],
     left: [usize; 64],
 }
 
-// Cuts the bytes into columns. For more than 64 posts it is opened for none.
+// Columns with no stamps. For more than 64 posts they are opened for none.
 pub fn open<'a>(posts: u8, bytes: &'a mut [u8]) -> Columns<'a>
     ensures sound { λ r. ⌜ sound-of r ⌝ }
     ensures meaning { λ r. ⌜ pile-of r ≡ fresh (opened posts) (λ _. column-width posts (length (now (bytes .entry)))) ⌝ }
@@ -84,7 +99,8 @@ fn kind_by(code: u16) -> Kind
 
 // Puts a stamp, unmarked, at a cell.
 fn put_stamp(bytes: &mut [u8], at: usize, header: Header, entries: &[u16])
-    ensures { λ _. ⌜ (at + 6 + length (now (entries .entry)) ≤ whole (now (bytes .entry)) → size (header .cover .bits) ≡ length (now (entries .entry)) → Stored (cell-at (now (bytes .entry))) (cell-at (now (bytes .exit))) at (unmarked header (now (entries .entry)))) ⌝ }
+    requires { ⌜ at + 6 + length (now entries) ≤ whole (now bytes) ⌝ }
+    ensures { λ _. ⌜ (size (header .cover .bits) ≡ length (now (entries .entry)) → Stored (cell-at (now (bytes .entry))) (cell-at (now (bytes .exit))) at (unmarked header (now (entries .entry)))) ⌝ }
 {
     let bits = header.cover.bits();
     let head = [
@@ -96,12 +112,13 @@ fn put_stamp(bytes: &mut [u8], at: usize, header: Header, entries: &[u16])
         header.full,
     ];
     write(bytes, at, &head);
-    write(bytes, at.saturating_add(6), entries);
+    write(bytes, at + 6, entries);
 }
 
 // Puts a place, a number of two cells, at a cell.
 fn put_place(bytes: &mut [u8], at: usize, place: usize)
-    ensures { λ _. ⌜ (at + 2 ≤ whole (now (bytes .entry)) → place < 4294967296 → Placed (cell-at (now (bytes .entry))) (cell-at (now (bytes .exit))) at place) ⌝ }
+    requires { ⌜ at + 2 ≤ whole (now bytes) ⌝ }
+    ensures { λ _. ⌜ (place < 4294967296 → Placed (cell-at (now (bytes .entry))) (cell-at (now (bytes .exit))) at place) ⌝ }
 {
     let high = (place / 65536 % 65536) as u16;
     write(bytes, at, &[high, (place % 65536) as u16]);
@@ -128,6 +145,7 @@ impl Columns<'_> {
         }
     }
 
+    // A cell; past the whole cells, 0.
     fn cell(&self, i: usize) -> u16
         ensures { λ r. ⌜ r ≡ cells-of (now (self .entry)) i ⌝ }
     {
@@ -151,14 +169,18 @@ impl Columns<'_> {
 
     // The cell at which a held stamp begins.
     fn find(&self, event: Event) -> Result<usize, KeeperFault>
-        ensures within { λ r. ⌜ made r (λ at. at ≤ whole (now (now (self .entry) .bytes))) ⌝ }
+        ensures within { λ r. ⌜ made r (λ at. at < whole (now (now (self .entry) .bytes))) ⌝ }
         ensures answer { λ r. ⌜ (sound-of (now (self .entry)) → r ≡ ask-stamp (pile-of (now (self .entry))) event (λ _. Ok (cell-of (now (self .entry)) (event .post) (event .number)))) ⌝ }
         ensures lies { λ r. ⌜ (sound-of (now (self .entry)) → made r (λ at. Lies (cells-of (now (self .entry))) at (stamp-of (pile-of (now (self .entry))) (event .post) (event .number)))) ⌝ }
     {
         locate(self.posts, self.count_of(event.post), event)?;
-        let place = pair(self.bytes, self.place_cell(event.post, event.number as usize));
+        let place = pair(
+            self.bytes,
+            self.place_cell(event.post, event.number as usize),
+        );
         let at = self.start_of(event.post).saturating_add(place as usize);
-        if at > self.bytes.len() / 2 {
+        // Never so in columns that were opened.
+        if at >= self.bytes.len() / 2 {
             return Err(KeeperFault::NotHeld);
         }
         Ok(at)
@@ -225,12 +247,18 @@ pub impl<'a> Keeper for Columns<'a> as ColumnsKeeper {
         let count = self.count_of(post);
         let left = self.left_of(post);
         admit(self.posts, count, left, post, header.cover, entries.len())?;
-        if post >= MAX_POSTS {
-            return Err(KeeperFault::UnknownPost);
-        }
-        let front = self.width.saturating_sub(left).saturating_sub(2 * count as usize);
+        let front = self.width
+            .saturating_sub(left)
+            .saturating_sub(2 * count as usize);
         let at = self.start_of(post).saturating_add(front);
+        let past = at.saturating_add(6 + entries.len());
         let back = self.place_cell(post, count as usize + 1);
+        let end = back.saturating_add(2);
+        let room = self.bytes.len() / 2;
+        // Never so in columns that were opened.
+        if post >= MAX_POSTS || past > back || end > room {
+            return Err(KeeperFault::Full);
+        }
         put_stamp(self.bytes, at, header, entries);
         put_place(self.bytes, back, front);
         self.counts[post as usize] = count + 1;

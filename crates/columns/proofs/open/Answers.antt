@@ -13,12 +13,14 @@ use Rattle.columns.proofs.open.Needs.{then-posts-le-MAX-POSTS, else-posts-le-M
 pub returns : need.returns
 returns c =
     let posts : c .if-posts-le-MAX-POSTS .posts ≡ opened (c .args .posts) =
-    elim (c .if-posts-le-MAX-POSTS .came)
-    [ then-posts-le-MAX-POSTS w ↦ w .posts-is ∙ sym (cond-true _ _ _ (le-leb (c .args .posts) 64 (omega arith)))
-    | else-posts-le-MAX-POSTS w ↦ w .posts-is ∙ sym (cond-false _ _ _ (lt-leb (c .args .posts) 64 (omega arith))) ] in
+    elim (c .if-posts-le-MAX-POSTS .came) [
+      | then-posts-le-MAX-POSTS w ↦ w .posts-is ∙ sym (cond-true _ _ _ (le-leb (c .args .posts) 64 (omega arith)))
+      | else-posts-le-MAX-POSTS w ↦ w .posts-is ∙ sym (cond-false _ _ _ (lt-leb (c .args .posts) 64 (omega arith)))
+    ] in
     let width : c .if-posts-gt0 .width ≡ cond (ltb 0 (c .if-posts-le-MAX-POSTS .posts)) (whole (c .args .bytes .now) / c .if-posts-le-MAX-POSTS .posts) 0 =
-    elim (c .if-posts-gt0 .came)
-    [ then-posts-gt0 w ↦ w .width-is ∙ sym (cond-true _ _ _ (lt-ltb 0 (c .if-posts-le-MAX-POSTS .posts) (omega arith)))
-    | else-posts-gt0 w ↦ w .width-is ∙ sym (cond-false _ _ _ (le-ltb 0 (c .if-posts-le-MAX-POSTS .posts) (omega arith))) ] in
+    elim (c .if-posts-gt0 .came) [
+      | then-posts-gt0 w ↦ w .width-is ∙ sym (cond-true _ _ _ (lt-ltb 0 (c .if-posts-le-MAX-POSTS .posts) (omega arith)))
+      | else-posts-gt0 w ↦ w .width-is ∙ sym (cond-false _ _ _ (le-ltb 0 (c .if-posts-le-MAX-POSTS .posts) (omega arith)))
+    ] in
     let all = open-all (c .args .posts) (c .if-posts-le-MAX-POSTS .posts) (c .if-posts-gt0 .width) (c .args .bytes .now) posts width in
     record { sound = all .0; meaning = all .1 }

@@ -14,7 +14,7 @@ returns-in-Break-locate c =
     record {
       within = tt;
       answer = λ ok.
-        same-fault (s .posts) _ _ (e .post) (e .number) tt _ _ (c .count-of .ensures ∙ sym (length-map-counting _ 0 (getD (s .counts) (e .post) 0))) (c .in-Break-locate .ensures tt);
+          same-fault (s .posts) _ _ (e .post) (e .number) tt _ _ (c .count-of .ensures ∙ sym (length-map-counting _ 0 (getD (s .counts) (e .post) 0))) (c .in-Break-locate .ensures tt);
       lies = λ ok. tt;
     }
 
@@ -24,7 +24,7 @@ returns-then-at-self c =
     record {
       within = tt;
       answer = λ ok.
-        absurd (omega (arith, found-inside (s .posts) (s .width) (s .counts) (s .left) (s .bytes .now) (e .post) (e .number) _ _ _ _ _ ok (c .count-of .ensures) (c .in-Continue-locate .ensures tt) (omega arith) (c .start-of .ensures) (c .place-cell .ensures) (c .pair-place .ensures) (c .saturating-add-at .ensures)));
+          absurd (omega (arith, found-inside (s .posts) (s .width) (s .counts) (s .left) (s .bytes .now) (e .post) (e .number) _ _ _ _ _ ok (c .count-of .ensures) (c .in-Continue-locate .ensures tt) (omega arith) (c .start-of .ensures) (c .place-cell .ensures) (c .pair-place .ensures) (c .saturating-add-at .ensures)));
       lies = λ ok. tt;
     }
 
@@ -34,7 +34,7 @@ returns c =
     record {
       within = omega arith;
       answer = λ ok.
-        found-answer (s .posts) (s .width) (s .counts) (s .left) (s .bytes .now) (e .post) (e .number) _ _ _ _ _ ok (c .count-of .ensures) (c .in-Continue-locate .ensures tt) (omega arith) (c .start-of .ensures) (c .place-cell .ensures) (c .pair-place .ensures) (c .saturating-add-at .ensures);
+          found-answer (s .posts) (s .width) (s .counts) (s .left) (s .bytes .now) (e .post) (e .number) _ _ _ _ _ ok (c .count-of .ensures) (c .in-Continue-locate .ensures tt) (omega arith) (c .start-of .ensures) (c .place-cell .ensures) (c .pair-place .ensures) (c .saturating-add-at .ensures);
       lies = λ ok.
-        found-lies (s .posts) (s .width) (s .counts) (s .left) (s .bytes .now) (e .post) (e .number) _ _ _ _ _ ok (c .count-of .ensures) (c .in-Continue-locate .ensures tt) (omega arith) (c .start-of .ensures) (c .place-cell .ensures) (c .pair-place .ensures) (c .saturating-add-at .ensures);
+          found-lies (s .posts) (s .width) (s .counts) (s .left) (s .bytes .now) (e .post) (e .number) _ _ _ _ _ ok (c .count-of .ensures) (c .in-Continue-locate .ensures tt) (omega arith) (c .start-of .ensures) (c .place-cell .ensures) (c .pair-place .ensures) (c .saturating-add-at .ensures);
     }

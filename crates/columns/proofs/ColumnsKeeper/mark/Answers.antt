@@ -1,5 +1,4 @@
-use mathlib.Core.Path.{refl}
-use Prim.Native.Nat.{_+_, _%_}
+use mathlib.Core.Path.{refl, _∙_}
 use native.Mathlib.Omega.{arith}
 use Rattle.std.proofs.shelf.Results.{err-from-errBy}
 use Rattle.columns.proofs.Answered.{same-fault, mark-all}
@@ -17,4 +16,4 @@ pub returns : need.returns
 returns c =
     λ ok.
     let s = c .args .self .now in
-    mark-all (s .posts) (s .width) (s .counts) (s .left) (s .bytes .now) (c .put-cell .last .bytes) (c .args .event) (c .in-Continue-at .at) (256 + c .cell-kind .result % 256) ok (c .in-Continue-at .ensures tt .answer ok) (omega arith) (c .put-cell .ensures) (omega arith)
+    mark-all (s .posts) (s .width) (s .counts) (s .left) (s .bytes .now) (c .put-cell .last .bytes) (c .args .event) (c .in-Continue-at .at) ok (c .in-Continue-at .ensures tt .answer ok) (omega (arith, c .put-cell .ensures .there)) (c .put-cell .ensures .elsewhere) (omega arith)

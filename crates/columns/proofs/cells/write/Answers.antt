@@ -1,11 +1,10 @@
-use mathlib.Core.Path.{refl, ap, sym, subst}
+use mathlib.Core.Path.{refl, subst}
 use mathlib.Core.List.{List}
-use Prim.Native.Nat.{ℕ, _+_}
+use Prim.Native.Nat.{ℕ}
 use native.Mathlib.Omega.{arith}
-use lib.ListN.{length}
 use Rattle.std.proofs.shelf.Lists.{take-all}
-use Rattle.columns.specs.Cells.{whole, cell-at, Wrote}
-use Rattle.columns.proofs.Bytes.{is-put, wrote-none, wrote-more}
+use Rattle.columns.specs.Cells.{cell-at, Wrote}
+use Rattle.columns.proofs.Bytes.{wrote-none, wrote-more}
 use Rattle.columns.proofs.cells.write.Needs as need
 
 pub loop-i-holds : need.loop-i-holds
@@ -13,10 +12,9 @@ loop-i-holds c = wrote-none (cell-at (c .args .bytes .now)) (c .args .at) (c .ar
 
 pub loop-i-again : need.loop-i-again
 loop-i-again c =
-    let put = is-put (cell-at (c .loop-i .bytes)) (cell-at (c .put-cell .last .bytes)) (c .args .at + c .loop-i .i) (whole (c .loop-i .bytes)) _ (c .put-cell .ensures) (omega arith) in
-    wrote-more (cell-at (c .args .bytes .now)) (cell-at (c .loop-i .bytes)) (cell-at (c .put-cell .last .bytes)) (c .args .at) (c .loop-i .i) _ (c .args .values .now) (omega arith) (c .loop-i .inv) refl (put .0) (put .1)
+    wrote-more (cell-at (c .args .bytes .now)) (cell-at (c .loop-i .bytes)) (cell-at (c .put-cell .last .bytes)) (c .args .at) (c .loop-i .i) _ (c .args .values .now) (omega arith) (c .loop-i .inv) refl (c .put-cell .ensures .there) (c .put-cell .ensures .elsewhere)
 
 pub returns : need.returns
 returns c =
-    λ _. subst (λ (vs : List ℕ). Wrote (cell-at (c .args .bytes .now)) (cell-at (c .loop-i .bytes)) (c .args .at) vs)
+    subst (λ (vs : List ℕ). Wrote (cell-at (c .args .bytes .now)) (cell-at (c .loop-i .bytes)) (c .args .at) vs)
     (take-all (c .loop-i .i) (c .args .values .now) (omega arith)) (c .loop-i .inv)
