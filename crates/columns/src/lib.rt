@@ -267,9 +267,9 @@ pub impl<'a> Keeper for Columns<'a> as ColumnsKeeper {
     }
 
     fn mark(&mut self, event: Event) -> Result<(), KeeperFault> {
-        let at = self.find(event)?;
-        let kind = self.cell(at) % 256;
-        put_cell(self.bytes, at, 256 + kind);
+        let first = self.find(event)?;
+        let kind = self.cell(first) % 256;
+        put_cell(self.bytes, first, 256 + kind);
         Ok(())
     }
 }
