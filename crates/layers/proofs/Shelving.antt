@@ -11,7 +11,7 @@ use Rattle.keeper.specs.Answers.{ask-count}
 use Rattle.keeper.specs.Moves.{Appended, Appends, unmarked}
 use Rattle.keeper.specs.Piles.{Pile, Stamp, held-count, no-stamp}
 use Rattle.keeper.specs.declared.admit.Header.{Header}
-use Rattle.layers.proofs.Admitted.{admitted, answered}
+use Rattle.keeper.proofs.Admitted.{admitted, answered}
 use Rattle.layers.specs.Shelves.{over-front, entry-in, slot-of, put-at, Latest, Agrees}
 use Rattle.layers.specs.declared.shelf.Slot.{Slot}
 use Rattle.order.proofs.PostSets.{length-below-le, rank-below, has-bound}

@@ -1,5 +1,5 @@
 use native.Mathlib.Omega.{arith}
-use Rattle.layers.proofs.Admitted.{admitted}
+use Rattle.keeper.proofs.Admitted.{admitted}
 use Rattle.layers.proofs.quota.QuotaKeeper.append.Needs as need
 
 pub cast-entries : need.cast-entries
