@@ -12,8 +12,8 @@ use Rattle.std.specs.declared.result.Result.{Result}
 use Rattle.std.specs.declared.result.Result.the-variants.{Err}
 use Rattle.std.proofs.shelf.Tests.{cases-order}
 use Rattle.std.proofs.shelf.Ways.{tells}
-use Rattle.order.specs.Reads.{kindOf, recordOf, ground, refused, tail-form}
-use Rattle.order.specs.Records.{Bytes, code, event, post, kind, spare, partner, partner-post, partner-number, form}
+use Rattle.order.specs.Reads.{recordOf, ground, refused, tail-form}
+use Rattle.order.specs.Records.{kind-named, Bytes, code, event, post, kind, spare, partner, partner-post, partner-number, form}
 
 pub form-length : (n : ℕ) (r : Bytes) → (length r ≡ 8 → ⊥) → form n r ≡ 3
 unfolding form
@@ -28,15 +28,15 @@ unfolding form
 form-post n r l k p = grind (arith, tells)
 
 -- the kind that is read has the byte for its code
-pub code-kindOf : (n : ℕ) → n ≤ 2 → code (kindOf n) ≡ n
-code-kindOf n l =
+pub code-named : (n : ℕ) → n ≤ 2 → code (kind-named n) ≡ n
+code-named n l =
     elim (cases-order n 1) [
       | inl one ↦ rw one refl
       | inr far ↦ elim far [ inl less ↦ let e : n ≡ 0 = omega arith in rw e refl | inr more ↦ let e : n ≡ 2 = omega arith in rw e refl ]
     ]
 
 -- past these grounds the spare byte and the partner decide
-pub form-tail : (n : ℕ) (r : Bytes) → length r ≡ 8 → kind r ≤ 2 → post r < n → form n r ≡ tail-form (kindOf (kind r)) (spare r) (partner r) (post r) n
+pub form-tail : (n : ℕ) (r : Bytes) → length r ≡ 8 → kind r ≤ 2 → post r < n → form n r ≡ tail-form (kind-named (kind r)) (spare r) (partner r) (post r) n
 unfolding form
 form-tail n r l k p =
     elim (cases-order (kind r) 1) [
@@ -49,14 +49,14 @@ form-tail n r l k p =
 
 -- the same at the parts that were read: what refuses the tail refuses the form
 pub form-of-read
-    : (n : ℕ) (r : Bytes) (k : Kind) (e m : Event) (g : ℕ) → length r ≡ 8 → (kind r ≤ 2) × (k ≡ kindOf (kind r)) → e ≡ event r → e .post < n → m ≡ partner r → g ≡ tail-form k (spare r) m (e .post) n → g ≡ form n r
+    : (n : ℕ) (r : Bytes) (k : Kind) (e m : Event) (g : ℕ) → length r ≡ 8 → (kind r ≤ 2) × (k ≡ kind-named (kind r)) → e ≡ event r → e .post < n → m ≡ partner r → g ≡ tail-form k (spare r) m (e .post) n → g ≡ form n r
 form-of-read n r k e m g l c ee p me h =
     let own : post r < n = omega (arith, ap (λ (x : Event). x .post) ee) in
-    let at : tail-form k (spare r) m (e .post) n ≡ tail-form (kindOf (kind r)) (spare r) (partner r) (post r) n = rw (c .1, ee, me) refl in
+    let at : tail-form k (spare r) m (e .post) n ≡ tail-form (kind-named (kind r)) (spare r) (partner r) (post r) n = rw (c .1, ee, me) refl in
     h ∙ at ∙ sym (form-tail n r l (c .0) own)
 
 pub record-of-read
-    : (r : Bytes) (k : Kind) (e m : Event) → k ≡ kindOf (kind r) → e ≡ event r → m ≡ partner r → _≡_ {A = Record} (record { event = e; kind = k; partner = m }) (recordOf r)
+    : (r : Bytes) (k : Kind) (e m : Event) → k ≡ kind-named (kind r) → e ≡ event r → m ≡ partner r → _≡_ {A = Record} (record { event = e; kind = k; partner = m }) (recordOf r)
 record-of-read r k e m ke ee me = rw (ke, ee, me) refl
 
 -- the exit of a `?`, which hands on the fault f

@@ -10,14 +10,10 @@ use Rattle.order.specs.declared.event.Kind.the-variants.{Local, Send, Receive}
 use Rattle.order.specs.declared.«record».Record.{Record}
 use Rattle.order.specs.declared.«record».RecordFault.{RecordFault}
 use Rattle.order.specs.declared.«record».RecordFault.the-variants.{WrongLength, UnknownKind, UnknownPost, StrayBytes, WrongPartner}
-use Rattle.order.specs.Records.{Bytes, event, kind, partner}
-
--- the kind with this code; past the codes a receive
-abbrev pub kindOf : ℕ → Kind
-kindOf n = cond (eqb n 0) Local (cond (eqb n 1) Send Receive)
+use Rattle.order.specs.Records.{Bytes, event, kind, kind-named, partner}
 
 abbrev pub recordOf : Bytes → Record
-recordOf r = record { event = event r; kind = kindOf (kind r); partner = partner r }
+recordOf r = record { event = event r; kind = kind-named (kind r); partner = partner r }
 
 -- the number of the ground that a fault stands for
 abbrev pub ground : RecordFault → ℕ

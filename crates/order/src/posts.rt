@@ -1,5 +1,5 @@
 // Sets of posts. A kiln has at most 64 posts, so a set is the bits of one `u64`.
-ghost use Prim.Native.Nat.{ℕ, _<_, _^_};
+ghost use Prim.Native.Nat.{ℕ, min, _-_, _<_, _^_};
 ghost use lib.Bits.{bitOr};
 ghost use lib.Dec.{eqb, ltb};
 ghost use lib.ListN.{length};
@@ -38,7 +38,8 @@ impl PostSet {
 
     // Every post below `posts`, and none from 64 on.
     pub fn first(posts: u8) -> PostSet
-        ensures { λ r. ⌜ ((q : ℕ) → has (r .bits) q ≡ (ltb q posts && ltb q 64)) ⌝ }
+        ensures bits { λ r. ⌜ r .bits ≡ 2 ^ min posts 64 - 1 ⌝ }
+        ensures members { λ r. ⌜ ((q : ℕ) → has (r .bits) q ≡ (ltb q posts && ltb q 64)) ⌝ }
     {
         if posts >= MAX_POSTS {
             return PostSet { bits: u64::MAX };

@@ -4,8 +4,8 @@ ghost use lib.ListN.{length, getD};
 ghost use mathlib.Core.Path.{_≡_};
 ghost use Rattle.std.specs.Results.{Cases};
 ghost use Rattle.std.specs.Vec.{made};
-ghost use Rattle.order.specs.Reads.{ground, kindOf, recordOf, refused, tail-form};
-ghost use Rattle.order.specs.Records.{form, two-bytes};
+ghost use Rattle.order.specs.Reads.{ground, recordOf, refused, tail-form};
+ghost use Rattle.order.specs.Records.{form, kind-named, two-bytes};
 use crate::event::Event;
 use crate::event::EventDebug;
 use crate::event::Kind;
@@ -77,7 +77,7 @@ impl Record {
 }
 
 fn kind_of(code: u8) -> Result<Kind, RecordFault>
-    ensures { λ r. ⌜ Cases r (λ k. (code ≤ 2) × (k ≡ kindOf code)) (λ f. (2 < code) × (f ≡ RecordFault.UnknownKind)) ⌝ }
+    ensures { λ r. ⌜ Cases r (λ k. (code ≤ 2) × (k ≡ kind-named code)) (λ f. (2 < code) × (f ≡ RecordFault.UnknownKind)) ⌝ }
 {
     match code {
         0 => Ok(Kind::Local),
