@@ -1,23 +1,22 @@
 -- What a partition's type invariant gives, and what a merge leaves of it.
 use mathlib.Core.Path.{_≡_, refl, sym, ap, subst, _∙_}
-use mathlib.Core.Bool.{Bool, true, false, cond, _||_, _&&_, Bool-set}
+use mathlib.Core.Bool.{true, false, cond, Bool-set}
 use mathlib.Core.List.{List}
 use mathlib.Core.Logic.{_⊎_, inl, inr, ⊎-elim, ∥∥₁-elim}
-use Prim.Native.Nat.{ℕ, _+_, _^_, _≤_, _<_}
+use Prim.Native.Nat.{ℕ, _^_, _≤_, _<_}
 use native.Mathlib.Bridge.{le-prop}
 use native.Mathlib.Nat.{ℕ-set}
 use native.Mathlib.Omega.{arith}
 use lib.Bits.{bitOr, or-zero-l, or-zero-r}
-use lib.Dec.{ltb, eqb}
-use lib.ListN.{length, getD, set}
-use Rattle.std.proofs.shelf.Lists.{getD-set-same, getD-set-other, length-set}
-use Rattle.std.proofs.shelf.Tests.{both-ways, cases-bool, cases-eq, cases-lt, cond-true, cond-false, cond-both, or-cases, or-left, or-right, lt-ltb, le-ltb, eqb-true}
+use lib.Dec.{ltb}
+use lib.ListN.{length}
+use Rattle.std.proofs.shelf.Tests.{both-ways, cases-bool, cases-lt, cond-true, cond-false, cond-both, or-cases, or-left, or-right, lt-ltb, le-ltb, eqb-true}
 use Rattle.std.proofs.shelf.Ways.{tells}
 use Rattle.order.proofs.PostSets.{has-empty, has-single, has-union}
 use Rattle.order.specs.Posts.{has}
 use Rattle.order.specs.declared.posts.PostSet.{PostSet}
 use Rattle.cluster.specs.Laws.{Parted}
-use Rattle.cluster.specs.Partitions.{clusters, joined, singles}
+use Rattle.cluster.specs.Partitions.{clusters, joined}
 use Rattle.cluster.specs.Sets.{bits-at}
 use Rattle.cluster.specs.declared.partition.Partition.{Partition}
 
@@ -165,6 +164,17 @@ merged-unknown s a b (inl u) q =
     ap (λ (x : ℕ). Joined (clusters s) x q) (ap (λ (x : ℕ). bitOr x (clusters s b)) (unknown s a u) ∙ or-zero-l (clusters s b)) ∙ own-again s b q
 merged-unknown s a b (inr u) q =
     ap (λ (x : ℕ). Joined (clusters s) x q) (ap (bitOr (clusters s a)) (unknown s b u) ∙ or-zero-r (clusters s a)) ∙ own-again s a q
+
+-- the union of two clusters, from what the calls answered
+pub both-clusters : (s : Partition) (a b x y both : ℕ) → x ≡ clusters s a → y ≡ clusters s b → both ≡ bitOr x y → both ≡ bitOr (clusters s a) (clusters s b)
+both-clusters s a b x y both e f j = j ∙ ap (λ (n : ℕ). bitOr n y) e ∙ ap (bitOr (clusters s a)) f
+
+-- what a merge leaves of clusters that are the same for the posts below n
+pub joined-like
+    : (n : ℕ) (c d : ℕ → ℕ) → ((q : ℕ) → q < n → c q ≡ d q) → (a b : ℕ) → a < n → b < n → (q : ℕ) → q < n → joined c a b q ≡ joined d a b q
+joined-like n c d e a b l m q k =
+    let both : bitOr (c a) (c b) ≡ bitOr (d a) (d b) = ap (λ (x : ℕ). bitOr x (c b)) (e a l) ∙ ap (bitOr (d a)) (e b m) in
+    ap (λ (x : ℕ). cond (has x q) x (c q)) both ∙ ap (cond (has (bitOr (d a) (d b)) q) (bitOr (d a) (d b))) (e q k)
 
 -- ---- a loop that writes the table of sets place by place
 

@@ -1,5 +1,5 @@
 -- A partition's clusters, and clusters after a merge.
-use mathlib.Core.Bool.{Bool, true, false, cond}
+use mathlib.Core.Bool.{cond}
 use Prim.Native.Nat.{ℕ, _^_}
 use lib.Bits.{bitOr}
 use lib.Dec.{ltb}

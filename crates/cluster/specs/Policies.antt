@@ -1,5 +1,5 @@
 -- The two supplied policies.
-use mathlib.Core.Bool.{Bool, true, false, _&&_}
+use mathlib.Core.Bool.{_&&_}
 use Prim.Native.Nat.{ℕ, _+_}
 use borrow.Author.Tests.{leb-true}
 use Rattle.std.proofs.shelf.Tests.{and-parts}

@@ -5,7 +5,7 @@ ghost use mathlib.Core.Bool.{true};
 ghost use mathlib.Core.List.{[], _∷_};
 ghost use mathlib.Core.Path.{_≡_};
 ghost use Rattle.cluster.specs.Clusters.{exchanges as exchanges-of};
-ghost use Rattle.cluster.specs.Traffic.{Tells, capped, linked, noted, pair-sum, row-sum, told};
+ghost use Rattle.cluster.specs.Counts.{Tells, capped, linked, noted, pair-sum, row-sum, told};
 ghost use Rattle.order.specs.History.{History};
 ghost use Rattle.order.specs.Records.{Bytes, partner-post, post as post-of, receives};
 use order::posts::MAX_POSTS;

@@ -31,6 +31,7 @@ impl Limit {
     pub fn fits(self, own: u8, other: u8) -> bool
         ensures { λ r. ⌜ r ≡ fit (self .value) own other ⌝ }
     {
-        own as u16 + other as u16 <= self.value as u16
+        let posts = own as u16 + other as u16;
+        posts <= self.value as u16
     }
 }

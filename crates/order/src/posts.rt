@@ -23,6 +23,19 @@ impl PostSet {
         PostSet { bits: 0 }
     }
 
+    // The set as one number, bit q for post q, and back: for a store that has only numbers.
+    pub fn bits(self) -> u64
+        ensures { λ r. ⌜ r ≡ self .bits ⌝ }
+    {
+        self.bits
+    }
+
+    pub fn from_bits(bits: u64) -> PostSet
+        ensures { λ r. ⌜ r .bits ≡ bits ⌝ }
+    {
+        PostSet { bits }
+    }
+
     // Every post below `posts`, and none from 64 on.
     pub fn first(posts: u8) -> PostSet
         ensures bits { λ r. ⌜ r .bits ≡ 2 ^ min posts 64 - 1 ⌝ }

@@ -1,8 +1,7 @@
 use mathlib.Core.Path.{_≡_, _∙_}
 use native.Mathlib.Omega.{arith}
-use Prim.Native.Nat.{ℕ}
-use Rattle.cluster.specs.Traffic.{capped, pair-sum, row-sum, told}
-use Rattle.cluster.proofs.Traffic.{capped-none, capped-more, capped-all, exchanges-le, told-exchanges}
+use Rattle.cluster.specs.Counts.{capped, pair-sum, row-sum, told}
+use Rattle.cluster.proofs.Counts.{capped-none, capped-more, capped-all, exchanges-le, told-exchanges}
 use Rattle.cluster.proofs.exchanges.Exchanges.between.Needs as need
 
 pub loop-receiver-holds : need.loop-receiver-holds

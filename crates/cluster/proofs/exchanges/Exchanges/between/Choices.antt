@@ -1,5 +1,5 @@
 use mathlib.Core.Path.{_≡_}
-use Rattle.cluster.specs.Traffic.{capped, row-sum, sum-below, told}
+use Rattle.cluster.specs.Counts.{capped, row-sum, sum-below, told}
 use Rattle.cluster.proofs.exchanges.Exchanges.between.Given as given
 
 abbrev pub Inv-loop-receiver : given.InvT-loop-receiver

@@ -1,4 +1,4 @@
-use Rattle.cluster.proofs.Traffic.{tells-none}
+use Rattle.cluster.proofs.Counts.{tells-none}
 use Rattle.cluster.proofs.exchanges.Exchanges.new.Needs as need
 
 pub returns : need.returns

@@ -1,6 +1,6 @@
 use native.Mathlib.Omega.{arith}
-use Rattle.cluster.specs.Traffic.{told}
-use Rattle.cluster.proofs.Traffic.{told-noted, tells-noted}
+use Rattle.cluster.specs.Counts.{told}
+use Rattle.cluster.proofs.Counts.{told-noted, tells-noted}
 use Rattle.cluster.proofs.exchanges.Exchanges.note.Needs as need
 
 pub returns-then-sender-lt-MAX-POSTS : need.returns-then-sender-lt-MAX-POSTS

@@ -1,8 +1,7 @@
-use mathlib.Core.Bool.{cond}
-use mathlib.Core.Path.{_≡_, ap, sym, _∙_}
+use mathlib.Core.Path.{_≡_, sym, _∙_}
 use native.Mathlib.Omega.{arith}
-use Rattle.cluster.specs.Traffic.{capped, linked, linked-count, row-sum, told}
-use Rattle.cluster.proofs.Traffic.{capped-none, capped-more, capped-skip, capped-all}
+use Rattle.cluster.specs.Counts.{capped, linked, linked-count, row-sum, told}
+use Rattle.cluster.proofs.Counts.{capped-none, capped-more, capped-skip, capped-all}
 use Rattle.std.proofs.shelf.Tests.{cond-true, cond-false}
 use Rattle.cluster.proofs.exchanges.Exchanges.row.Needs as need
 use Rattle.cluster.proofs.exchanges.Exchanges.row.Needs.{then-linked, else-linked}

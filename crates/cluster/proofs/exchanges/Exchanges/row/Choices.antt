@@ -1,5 +1,5 @@
 use mathlib.Core.Path.{_≡_}
-use Rattle.cluster.specs.Traffic.{capped, linked-count, sum-below, told}
+use Rattle.cluster.specs.Counts.{capped, linked-count, sum-below, told}
 use Rattle.cluster.proofs.exchanges.Exchanges.row.Given as given
 
 abbrev pub Inv-loop-sender : given.InvT-loop-sender

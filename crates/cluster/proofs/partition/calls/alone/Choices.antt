@@ -1,4 +1,4 @@
-use Prim.Native.Nat.{ℕ, _^_}
+use Prim.Native.Nat.{_^_}
 use Rattle.cluster.proofs.Partitions.{Filled}
 use Rattle.cluster.proofs.partition.calls.alone.Given as given
 

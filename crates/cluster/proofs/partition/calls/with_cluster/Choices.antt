@@ -1,5 +1,4 @@
 use mathlib.Core.Bool.{cond}
-use Prim.Native.Nat.{ℕ}
 use Rattle.order.specs.Posts.{has}
 use Rattle.cluster.specs.Sets.{bits-at}
 use Rattle.cluster.proofs.Partitions.{Filled}

@@ -1,6 +1,6 @@
 use mathlib.Core.Path.{_≡_, refl, sym, ap, _∙_}
 use native.Mathlib.Omega.{arith}
-use Rattle.cluster.proofs.Traffic.{tells-other}
+use Rattle.cluster.proofs.Counts.{tells-other}
 use Rattle.order.proofs.Held.{passed}
 use Rattle.order.specs.Records.{kind, kind-named, partner-post, post}
 use Rattle.order.specs.declared.«record».Record.{Record}
