@@ -1,2 +1,3 @@
 pub mod Judged
 pub mod Reading
+pub mod StampReading
