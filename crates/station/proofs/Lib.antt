@@ -2,5 +2,6 @@ pub mod Entered
 pub mod Held
 pub mod Judged
 pub mod Reading
+pub mod StampReading
 pub mod Standing
 pub mod VectorReading
