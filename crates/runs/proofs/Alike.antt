@@ -94,7 +94,7 @@ one-rule {P} {n} (turn {h = h} {c = c} {cs = cs} {a = a} {xs = xs} s k x) (turn 
     go (inr l) ih = space l
 
 -- Rules with the same meaning are equal: what they carry besides are proofs.
-rule-path : (P Q : Rule) → SameRule P Q → P ≡ Q
+pub rule-path : (P Q : Rule) → SameRule P Q → P ≡ Q
 rule-path P Q same = λ i. record {
   limit = same .limit i;
   says = λ a b x. same .says a b x i;

@@ -1,3 +1,4 @@
-pub mod Histories
 pub mod Alike
+pub mod Histories
 pub mod Relates
+pub mod SevenEvents
