@@ -1,0 +1,4 @@
+pub mod Alike
+pub mod Histories
+pub mod Relates
+pub mod SevenEvents
