@@ -73,6 +73,11 @@ unfoldable pub gathered : ℕ → (ℕ → Bool) → ℕ
 gathered zero test = 0
 gathered (suc n) test = gathered n test + cond (test n) (2 ^ n) 0
 
+-- why an answer about a list is refused, if it is
+abbrev pub listed : {A : Type 0} → Result A AskFault → Option AskFault
+listed (Ok _) = None
+listed (Err f) = Some f
+
 abbrev pub hears : ℕ → History → List Event → Result PostSet AskFault
 hears n h es = of-list n h es (Ok (record { bits = gathered n (λ q. ltb 0 (farthest h es q)) }))
 
