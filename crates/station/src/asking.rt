@@ -24,7 +24,13 @@ impl<P: Policy, K: Keeper> Station<P, K> {
         ensures { λ r. ⌜ ((h : History) → Stands rule sound meaning (now (self .entry)) h → from < meaning (now (self .entry) .keeper) .posts → post < meaning (now (self .entry) .keeper) .posts → number ≤ count-of h from → r ≡ told (kept (rule (now (self .entry) .policy)) (meaning (now (self .entry) .keeper) .posts) h) from number post) ⌝ }
     {
         match self.keeper.full(Event { post: from, number }) {
-            Ok(full) => match self.keeper.entry(Event { post: from, number: full }, post) {
+            Ok(full) => match self.keeper.entry(
+                Event {
+                    post: from,
+                    number: full,
+                },
+                post,
+            ) {
                 Ok(entry) => entry,
                 Err(_) => 0,
             },

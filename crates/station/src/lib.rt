@@ -1,4 +1,5 @@
 // The event station.
+mod asking;
 pub mod asks;
 pub mod core;
 pub mod drafts;
@@ -6,6 +7,7 @@ mod entering;
 pub mod faults;
 mod feeding;
 mod judge;
+mod lists;
 mod opening;
 mod readers;
 mod stamping;
