@@ -20,34 +20,41 @@ use Rattle.station.proofs.core.Station.full_vector.Needs.{then-contains, else-
 use Rattle.station.specs.Drafts.{at}
 
 pub loop-post-holds : need.loop-post-holds
-loop-post-holds g c = (ap (λ (v : Vector). length (v .entries)) (c .new-all .ensures) ∙ c .kept-entries-own .ensures .len, λ h st p k held cover own.
-    gathers-none _ (st .valid) p k held _
-    (λ q. ap (λ (v : Vector). at v q) (c .new-all .ensures) ∙ own q ∙ ap (λ (b : ℕ). cond (has b q) (vec h p k q) 0) cover))
+loop-post-holds g c = (
+  ap (λ (v : Vector). length (v .entries)) (c .new-all .ensures) ∙ c .kept-entries-own .ensures .len,
+  λ h st p k held cover own.
+      gathers-none _ (st .valid) p k held _
+      (λ q. ap (λ (v : Vector). at v q) (c .new-all .ensures) ∙ own q ∙ ap (λ (b : ℕ). cond (has b q) (vec h p k q) 0) cover),
+)
 
 pub loop-post-again : need.loop-post-again
 loop-post-again g c = elim (c .if-contains .came) [
   | then-contains w ↦
       let i = c .loop-post .post in
       let same = c .loop-post .inv .0 ∙ sym (w .latest-full-vector .ensures .len) in
-      let value = ap (λ (x : Running Vector). x .value) (w .all-is) ∙ w .add .ensures in
-      (ap (λ (v : Vector). length (v .entries)) value ∙ length-larger _ _ same ∙ c .loop-post .inv .0, λ h st p k held cover own.
-        let R = g .P·Policy .rule (c .args .self .now .policy) in
-        let n = g .K·Keeper .meaning (c .args .self .now .keeper) .posts in
-        let t = sym (c .contains .ensures .value) ∙ w .if-contains .taken in
-        let entry = own i ∙ cond-true _ _ _ t in
-        let inside = cover-at-posts R (st .valid) p k i held (sym (ap (λ (b : ℕ). has b i) cover) ∙ t) in
-        let most : at (c .kept-entries-own .result) i ≤ count h i = omega (arith, vec-count (st .valid) p k i held) in
-        gathers-with R (st .valid) p k held i _ _ (at (w .latest-full-vector .result))
-        (λ q. w .latest-full-vector .ensures .full h st inside most q ∙ ap (λ (m : ℕ). vec h i (latest-full R n h i m) q) entry)
-        (λ q. ap (λ (v : Vector). at v q) value ∙ getD-larger _ _ q same)
-        (c .loop-post .inv .1 h st p k held cover own))
-  | else-contains w ↦
-      (ap (λ (x : Running Vector). length (x .value .entries)) (w .all-is) ∙ c .loop-post .inv .0, λ h st p k held cover own.
+      let value = ap (λ (x : Running Vector). x .value) (w .all-is) ∙ w .add .ensures in (
+        ap (λ (v : Vector). length (v .entries)) value ∙ length-larger _ _ same ∙ c .loop-post .inv .0,
+        λ h st p k held cover own.
+            let R = g .P·Policy .rule (c .args .self .now .policy) in
+            let n = g .K·Keeper .meaning (c .args .self .now .keeper) .posts in
+            let t = sym (c .contains .ensures .value) ∙ w .if-contains .taken in
+            let entry = own i ∙ cond-true _ _ _ t in
+            let inside = cover-at-posts R (st .valid) p k i held (sym (ap (λ (b : ℕ). has b i) cover) ∙ t) in
+            let most : at (c .kept-entries-own .result) i ≤ count h i = omega (arith, vec-count (st .valid) p k i held) in
+            gathers-with R (st .valid) p k held i _ _ (at (w .latest-full-vector .result))
+            (λ q. w .latest-full-vector .ensures .full h st inside most q ∙ ap (λ (m : ℕ). vec h i (latest-full R n h i m) q) entry)
+            (λ q. ap (λ (v : Vector). at v q) value ∙ getD-larger _ _ q same)
+            (c .loop-post .inv .1 h st p k held cover own),
+      )
+  | else-contains w ↦ (
+    ap (λ (x : Running Vector). length (x .value .entries)) (w .all-is) ∙ c .loop-post .inv .0,
+    λ h st p k held cover own.
         let out = sym (ap (λ (b : ℕ). has b (c .loop-post .post)) cover) ∙ sym (c .contains .ensures .value) ∙ w .if-contains .left in
         let R = g .P·Policy .rule (c .args .self .now .policy) in
         let n = g .K·Keeper .meaning (c .args .self .now .keeper) .posts in
         subst (λ (x : Running Vector). Gathers R n h p k (c .loop-post .post + 1) (at (x .value))) (sym (w .all-is))
-        (gathers-without R (st .valid) p k held (c .loop-post .post) _ out (c .loop-post .inv .1 h st p k held cover own)))
+        (gathers-without R (st .valid) p k held (c .loop-post .post) _ out (c .loop-post .inv .1 h st p k held cover own)),
+  )
 ]
 
 pub returns : need.returns

@@ -20,18 +20,27 @@ loop-post-again g c =
     let e = c .args .event in
     let size = c .loop-post .inv .0 in
     elim (c .if-contains .came) [
-      | then-contains·in-Ok w ↦ (ap length (w .entries-is) ∙ length-set _ _ _ ∙ size, λ h st k covers.
-          let t = sym (c .contains .ensures .value) ∙ w .if-contains .taken in
-          let read = w .in-Ok .ensures tt (st .keeps) ∙ read-entry _ _ _ _ h st e i (known _ h e k) (covers i t) in
-          let is : w .in-Ok .entry ≡ vec h (e .post) (e .number) i = cc in
-          subst (λ (xs : List ℕ). Upto xs bits (i + 1) (vec h (e .post) (e .number))) (sym (w .entries-is))
-          (upto-with _ bits i _ _ (omega arith) t is (c .loop-post .inv .1 h st k covers)))
-      | then-contains·in-rest w ↦ (ap length (w .entries-is) ∙ size, λ h st k covers.
-          let t = sym (c .contains .ensures .value) ∙ w .if-contains .taken in
-          absurd (not-refused _ _ (w .in-rest .ensures tt (st .keeps) ∙ read-entry _ _ _ _ h st e i (known _ h e k) (covers i t))))
-      | else-contains w ↦ (ap length (w .entries-is) ∙ size, λ h st k covers.
-          subst (λ (xs : List ℕ). Upto xs bits (i + 1) (vec h (e .post) (e .number))) (sym (w .entries-is))
-          (upto-without _ bits i _ (sym (c .contains .ensures .value) ∙ w .if-contains .left) (c .loop-post .inv .1 h st k covers)))
+      | then-contains·in-Ok w ↦ (
+        ap length (w .entries-is) ∙ length-set _ _ _ ∙ size,
+        λ h st k covers.
+            let t = sym (c .contains .ensures .value) ∙ w .if-contains .taken in
+            let read = w .in-Ok .ensures tt (st .keeps) ∙ read-entry _ _ _ _ h st e i (known _ h e k) (covers i t) in
+            let is : w .in-Ok .entry ≡ vec h (e .post) (e .number) i = cc in
+            subst (λ (xs : List ℕ). Upto xs bits (i + 1) (vec h (e .post) (e .number))) (sym (w .entries-is))
+            (upto-with _ bits i _ _ (omega arith) t is (c .loop-post .inv .1 h st k covers)),
+      )
+      | then-contains·in-rest w ↦ (
+        ap length (w .entries-is) ∙ size,
+        λ h st k covers.
+            let t = sym (c .contains .ensures .value) ∙ w .if-contains .taken in
+            absurd (not-refused _ _ (w .in-rest .ensures tt (st .keeps) ∙ read-entry _ _ _ _ h st e i (known _ h e k) (covers i t))),
+      )
+      | else-contains w ↦ (
+        ap length (w .entries-is) ∙ size,
+        λ h st k covers.
+            subst (λ (xs : List ℕ). Upto xs bits (i + 1) (vec h (e .post) (e .number))) (sym (w .entries-is))
+            (upto-without _ bits i _ (sym (c .contains .ensures .value) ∙ w .if-contains .left) (c .loop-post .inv .1 h st k covers)),
+      )
     ]
 
 pub returns : need.returns

@@ -26,9 +26,9 @@ returns g c = record {
       let some : 0 < f = omega (arith, c .if-full-eq0 .left) in
       let is = c .latest-full-full .ensures h st inside held in
       let first : (q : ℕ) → has (c .first-posts .result .bits) q ≡ (ltb q n && ltb q 64) =
-          λ q. c .first-posts .ensures .members q ∙ ap (λ (m : ℕ). ltb q m && ltb q 64) (c .posts .ensures (st .keeps) .0) in
+      λ q. c .first-posts .ensures .members q ∙ ap (λ (m : ℕ). ltb q m && ltb q 64) (c .posts .ensures (st .keeps) .0) in
       let known = knows-from n h (record { post = c .args .post; number = f })
-          (record { inside = inside; some = some; most = full-held _ (st .valid) (c .args .post) (c .args .number) f held is }) in
+      (record { inside = inside; some = some; most = full-held _ (st .valid) (c .args .post) (c .args .number) f held is }) in
       c .kept-entries .ensures .kept h st known
       (λ q t. full-covers _ (st .valid) (c .args .post) (c .args .number) f held is some q (ltb-true q n (and-parts _ (ltb q 64) (sym (first q) ∙ t) .0))) q
       ∙ full-entry _ (st .valid) (c .args .post) (c .args .number) f held is (c .first-posts .result .bits) q (first q) (st .few);
