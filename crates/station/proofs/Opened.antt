@@ -8,7 +8,7 @@ use native.Mathlib.Omega.{arith}
 use Rattle.cluster.proofs.Clusters.{cluster-start}
 use Rattle.cluster.specs.Partitions.{clusters, singles}
 use Rattle.cluster.specs.Rules.{Rule}
-use Rattle.cluster.specs.Traffic.{Tells}
+use Rattle.cluster.specs.Counts.{Tells}
 use Rattle.keeper.specs.Answers.{ask-count}
 use Rattle.keeper.specs.Piles.{Pile, held-count, opened}
 use Rattle.keeper.specs.declared.fault.KeeperFault.{KeeperFault}
