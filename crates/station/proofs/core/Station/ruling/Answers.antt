@@ -32,7 +32,7 @@ returns g c h b st ok is =
           ruled-across _ _ h b _ _ own-is two (sym has-is ∙ sym (w .in-Receive-false .ensures tt .value)) _ other-is
           (answers (g .P·Policy .rule (c .args .self .now .policy) .says) (w .ask .ensures) (w .size-of .ensures) (w .size-of-else-same .ensures) (w .between .ensures .exchanges h (st .exchanged) (short _ _ _ _ h st)) (w .if-ask .left))
           (ap (λ (x : Outcome × PostSet). x .0) (w .outcome-is))
-          (ap (λ (x : Outcome × PostSet). x .1 .bits) (w .outcome-is) ∙ first-all _ _ _ (st .few) (w .posts .ensures .posts ∙ st .parts) (w .first .ensures .bits))
+          (ap (λ (x : Outcome × PostSet). x .1 .bits) (w .outcome-is) ∙ first-all _ _ _ (st .few) (c .posts .ensures .posts ∙ st .parts) (c .first-all .ensures .bits))
       | in-rest w ↦
           let o = ap (λ (x : Outcome × PostSet). x .0) (w .outcome-is) in
           let cv = ap (λ (x : Outcome × PostSet). x .1 .bits) (w .outcome-is) in
