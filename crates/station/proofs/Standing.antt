@@ -27,7 +27,7 @@ use Rattle.std.specs.declared.result.Result.the-variants.{Ok, Err}
 use Rattle.station.proofs.Reading.{stands-holds}
 use Rattle.station.specs.Entries.{Groups, Holds, Stamped, room-for}
 use Rattle.station.specs.Stands.{Stands, Took, Unchanged}
-use Rattle.station.specs.Takes.{takes, after-take, judged, verdict, Moves}
+use Rattle.station.specs.Takes.{takes, after-take, judged, refusal, verdict, Moves}
 use Rattle.station.specs.declared.core.Station.{Station}
 use Rattle.station.specs.declared.faults.TakeFault.{TakeFault}
 use Rattle.station.specs.declared.faults.TakeFault.the-variants.{Keeper}
@@ -38,7 +38,7 @@ pub takes-judged : (P : Rule) (n : ℕ) (h : History) (b : Bytes) (space : ℕ) 
 unfolding verdict
 takes-judged P n h b space f e = elim (cases-bool (eqb (ground n h b) 0)) [
     inl t ↦ let passes = e ∙ when _ _ _ t in let z : _≡_ {A = ℕ} 0 1 = cc in absurd (omega arith)
-  | inr u ↦ e ∙ unless _ _ _ u ∙ sym (unless _ _ _ u)
+  | inr u ↦ let refused : Err f ≡ Err (refusal (ground n h b)) = e ∙ unless _ _ _ u in let same : f ≡ refusal (ground n h b) = cc in ap Err same ∙ sym (unless _ _ _ u)
   ]
 
 pub judged-record : (n : ℕ) (h : History) (b : Bytes) (r : Record) → Ok r ≡ judged n h b → r ≡ recordOf b

@@ -29,6 +29,5 @@ returns g c = record {
     let read = sym (c .in-Continue-record .was tt) ∙ c .judge .ensures h st in
     let ok = verdict-ok _ _ _ read in
     let is = judged-record _ h b (c .in-Continue-record .«record») read in
-    let t = c .typed .bytes in
-    c .enter .ensures h b st ?small ok (c .draft .ensures h b st ok is);
+    c .enter .ensures h b st (number-small b (c .typed .bytes 2 .fits) (c .typed .bytes 3 .fits)) ok (c .draft-draft .ensures h b st ok is);
 }
