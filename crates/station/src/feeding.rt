@@ -2,7 +2,7 @@
 ghost use Prim.Native.Nat.{_%_};
 ghost use mathlib.Core.Bool.{true};
 ghost use mathlib.Core.Path.{_≡_};
-ghost use lib.ListN.{length, take, drop};
+ghost use lib.ListN.{length};
 ghost use Rattle.order.specs.History.{History};
 ghost use Rattle.station.specs.Feeds.{placed};
 ghost use Rattle.station.specs.Stands.{Fed, Stands, Took};

@@ -25,7 +25,7 @@ loop-taken-again g c h st =
 pub returns-in-Break-take-at : need.returns-in-Break-take-at
 returns-in-Break-take-at g c = record {
   barred = λ e. absurd (both-ways _ (c .if-self .left) e);
-  ragged = λ h st ne. absurd (ne (c .if-bytes-ne0 .left));
+  ragged = λ h st ne. absurd (ne (omega arith));
   fed = λ h st even.
       let k = c .loop-taken .taken in
       let bytes = c .args .bytes .now in
@@ -39,7 +39,7 @@ returns-in-Break-take-at g c = record {
 pub returns : need.returns
 returns g c = record {
   barred = λ e. absurd (both-ways _ (c .if-self .left) e);
-  ragged = λ h st ne. absurd (ne (c .if-bytes-ne0 .left));
+  ragged = λ h st ne. absurd (ne (omega arith));
   fed = λ h st even.
       let done : c .loop-taken .taken ≡ length (c .args .bytes .now) / 8 = omega (arith, c .loop-taken-test .left, c .loop-taken .kept .taken-end) in
       subst (λ (m : ℕ). Fed (g .P·Policy .rule) (g .K·Keeper .sound) (g .K·Keeper .meaning) (c .args .self .now) (c .loop-taken .self) h (c .args .bytes .now) (Ok m)) done
