@@ -17,6 +17,8 @@ use station::core::Station;
 use station::faults::FeedFault;
 use station::faults::Taken;
 
+pub mod input;
+
 // An event that was taken: its name, what the cluster rule made of it, and the number of entries kept.
 #[derive(Clone, Copy)]
 pub struct Line {
@@ -41,15 +43,15 @@ pub impl fmt::Display for Line as LineDisplay {
 }
 
 // The line of a record of eight bytes that was taken.
-pub fn line_of(record: &[u8], taken: Taken) -> Line
+pub fn line_of(bytes: &[u8], taken: Taken) -> Line
     ensures answer { λ r. ⌜ (r .outcome ≡ taken .outcome) × (r .entries ≡ taken .entries) ⌝ }
-    ensures event { λ r. ⌜ (length (now (record .entry)) ≡ 8 → (r .post ≡ post-of (now (record .entry))) × (r .number ≡ number-of (now (record .entry)))) ⌝ }
+    ensures event { λ r. ⌜ (length (now (bytes .entry)) ≡ 8 → (r .post ≡ post-of (now (bytes .entry))) × (r .number ≡ number-of (now (bytes .entry)))) ⌝ }
 {
     let mut post = 0;
     let mut number = 0;
-    if record.len() == RECORD_LEN {
-        post = record[0];
-        number = u16::from_be_bytes([record[2], record[3]]);
+    if bytes.len() == RECORD_LEN {
+        post = bytes[0];
+        number = u16::from_be_bytes([bytes[2], bytes[3]]);
     }
     Line {
         post,

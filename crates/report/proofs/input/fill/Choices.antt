@@ -1,6 +1,6 @@
 use Prim.Native.Nat.{_-_, _≤_}
 use lib.ListN.{length}
-use Rattle.shift.proofs.fill.Given as given
+use Rattle.report.proofs.input.fill.Given as given
 
 abbrev pub Inv-loop-len : given.InvT-loop-len
 Inv-loop-len g l = l .len ≤ length (l .entry .buffer)
