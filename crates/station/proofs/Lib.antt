@@ -1,4 +1,5 @@
 pub mod Entered
+pub mod Farthest
 pub mod Held
 pub mod Judged
 pub mod Reading

@@ -1,17 +1,17 @@
 // Questions about lists of events: what they reach together, by the running join.
 ghost use Prim.Native.Nat.{ℕ, _<_};
 ghost use lib.Dec.{ltb};
-ghost use lib.ListN.{length};
-ghost use mathlib.Core.Bool.{true};
+ghost use lib.ListN.{getD, length};
+ghost use mathlib.Core.Bool.{true, _&&_};
 ghost use mathlib.Core.Path.{_≡_};
 ghost use Rattle.order.specs.History.{History};
 ghost use Rattle.order.specs.Posts.{has};
-ghost use Rattle.station.specs.Asks.{farthest, hears, horizon-slice, horizons, listed};
+ghost use Rattle.station.specs.Asks.{farthest as farthest-of, hears, horizon-slice, horizons, listed, of-list, Order-free-answers};
 ghost use Rattle.station.specs.Drafts.{at};
 ghost use Rattle.station.specs.Stands.{Stands};
 ghost use Rattle.station.specs.declared.asks.AskFault.the-variants.{Barred};
 ghost use Rattle.std.specs.Results.{Cases};
-ghost use Rattle.std.specs.declared.result.Result.the-variants.{Err};
+ghost use Rattle.std.specs.declared.result.Result.the-variants.{Ok, Err};
 use super::asks::AskFault;
 use super::core::Station;
 use cluster::policy::Policy;
@@ -27,7 +27,7 @@ use order::posts::PostSet;
 
 // The posts for which a vector has an entry above 0.
 fn posts_of(vector: Vector) -> PostSet
-    ensures { λ r. ⌜ ((q : ℕ) → q < 64 → has (r .bits) q ≡ ltb 0 (at vector q)) ⌝ }
+    ensures { λ r. ⌜ ((q : ℕ) → has (r .bits) q ≡ (ltb q 64 && ltb 0 (at vector q))) ⌝ }
 {
     let mut posts = PostSet::empty();
     for post in 0..MAX_POSTS {
@@ -36,6 +36,17 @@ fn posts_of(vector: Vector) -> PostSet
         }
     }
     posts
+}
+
+// Writes a vector's entries into a slice, from the first post on.
+fn write(vector: Vector, slice: &mut [u16])
+    ensures { λ _. ⌜ ((q : ℕ) → q < 64 → q < length (now (slice .entry)) → getD (now (slice .exit)) q 0 ≡ at vector q) ⌝ }
+{
+    for (place, entry) in slice.iter_mut().enumerate() {
+        if place < 64 {
+            *entry = vector.entries[place];
+        }
+    }
 }
 
 impl<P: Policy, K: Keeper> Station<P, K> {
@@ -50,12 +61,8 @@ impl<P: Policy, K: Keeper> Station<P, K> {
         if slice.len() != self.keeper.posts() as usize {
             return Err(AskFault::SliceLength);
         }
-        let farthest = self.farthest(events)?;
-        for (place, reach) in slice.iter_mut().enumerate() {
-            if place < 64 {
-                *reach = farthest.entries[place];
-            }
-        }
+        let reach = self.farthest(events)?;
+        write(reach, slice);
         Ok(())
     }
 
@@ -82,18 +89,23 @@ impl<P: Policy, K: Keeper> Station<P, K> {
 
     // The larger entries of all the events.
     fn farthest(&self, events: &[Event]) -> Result<Vector, AskFault>
-        ensures { λ r. ⌜ ((h : History) → Stands rule sound meaning (now (self .entry)) h → (listed r ≡ listed (hears (meaning (now (self .entry) .keeper) .posts) h (now (events .entry)))) × Cases r (λ v. (length (v .entries) ≡ 64) × ((q : ℕ) → at v q ≡ farthest h (now (events .entry)) q)) (λ _. Unit {0})) ⌝ }
+        ensures { λ r. ⌜ ((h : History) → Stands rule sound meaning (now (self .entry)) h → (listed r ≡ listed (of-list (meaning (now (self .entry) .keeper) .posts) h (now (events .entry)) (Ok (tt {0})))) × Cases r (λ v. (q : ℕ) → at v q ≡ farthest-of h (now (events .entry)) q) (λ _. Unit {0})) ⌝ }
     {
         let Some(first) = events.first() else {
             return Err(AskFault::NoEvents);
         };
-        let mut farthest = Running::new(self.vector(*first));
+        let mut reach = Running::new(self.vector(*first));
         for (place, event) in events.iter().enumerate() {
             if !self.holds(*event) {
                 return Err(AskFault::NotHeld { place });
             }
-            farthest.add(self.vector(*event));
+            reach.add(self.vector(*event));
         }
-        Ok(farthest.value())
+        Ok(reach.value())
     }
 }
+
+// The order and the repeats of the events of a list make no difference to what it reaches.
+pub fn order_free()
+    ensures { λ _. ⌜ Order-free-answers ⌝ }
+{}
