@@ -1,7 +1,9 @@
 pub mod Entered
 pub mod Farthest
+pub mod FeedSteps
 pub mod Held
 pub mod Judged
+pub mod Opened
 pub mod Reading
 pub mod StampReading
 pub mod Standing

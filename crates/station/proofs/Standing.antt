@@ -8,7 +8,7 @@ use native.Mathlib.Omega.{arith}
 use lib.Dec.{eqb, leb}
 use Rattle.cluster.specs.Clusters.{cover, outcome}
 use Rattle.cluster.specs.Rules.{Rule}
-use Rattle.cluster.specs.Traffic.{Tells}
+use Rattle.cluster.specs.Counts.{Tells}
 use Rattle.keeper.specs.Piles.{Pile, price}
 use Rattle.keeper.specs.declared.fault.KeeperFault.{KeeperFault}
 use Rattle.keeper.specs.declared.fault.KeeperFault.the-variants.{NoSpace}
