@@ -61,13 +61,13 @@ above-without bits i f none a q = elim (cases-eq q i) [
 
 module _ (n : ℕ) (h : History) where
   -- what is to come decides
-  pub missing-more : (es : List Event) (i : ℕ) (e d : Event) → i < length es → e ≡ getD es i d → knows n h e ≡ true → missing n h (drop i es) i ≡ missing n h es 0 → missing n h (drop (i + 1) es) (i + 1) ≡ missing n h es 0
-  missing-more es i e d inside is held so =
-      sym (cond-true _ _ _ (ap (knows n h) (sym is) ∙ held)) ∙ sym (at-drop-more (λ (xs : List Event). missing n h xs i) es i d inside) ∙ so
+  pub missing-more : (es : List Event) (i : ℕ) (d : Event) → i < length es → knows n h (getD es i d) ≡ true → missing n h (drop i es) i ≡ missing n h es 0 → missing n h (drop (i + 1) es) (i + 1) ≡ missing n h es 0
+  missing-more es i d inside held so =
+      sym (cond-true _ _ _ held) ∙ sym (at-drop-more (λ (xs : List Event). missing n h xs i) es i d inside) ∙ so
 
-  pub missing-here : (es : List Event) (i : ℕ) (e d : Event) → i < length es → e ≡ getD es i d → knows n h e ≡ false → missing n h (drop i es) i ≡ missing n h es 0 → missing n h es 0 ≡ Some i
-  missing-here es i e d inside is out so =
-      sym so ∙ at-drop-more (λ (xs : List Event). missing n h xs i) es i d inside ∙ cond-false _ _ _ (ap (knows n h) (sym is) ∙ out)
+  pub missing-here : (es : List Event) (i : ℕ) (d : Event) → i < length es → knows n h (getD es i d) ≡ false → missing n h (drop i es) i ≡ missing n h es 0 → missing n h es 0 ≡ Some i
+  missing-here es i d inside out so =
+      sym so ∙ at-drop-more (λ (xs : List Event). missing n h xs i) es i d inside ∙ cond-false _ _ _ out
 
   pub missing-none : (es : List Event) (i : ℕ) → length es ≤ i → missing n h (drop i es) i ≡ missing n h es 0 → missing n h es 0 ≡ None
   missing-none es i past so = sym so ∙ at-drop-all (λ (xs : List Event). missing n h xs i) es i past
@@ -114,10 +114,8 @@ module _ (h : History) where
   reaches-first [] e f some is told q = absurd (omega arith)
   reaches-first (x ∷ es) e f some is told q = omega (arith, told q, ap (λ (y : Event). entry h y q) is)
 
-  pub reaches-more : (es : List Event) (i : ℕ) (e d : Event) (f g : ℕ → ℕ) → i < length es → e ≡ getD es i d → ((q : ℕ) → g q ≡ max (f q) (entry h e q)) → Reaches h es i f → Reaches h es (i + 1) g
-  reaches-more es i e d f g inside is joined so q =
-      let step = at-drop-more (λ (xs : List Event). farthest h xs q) es i d inside in
-      omega (arith, so q, step, joined q, ap (λ (x : Event). entry h x q) is)
+  pub reaches-more : (es : List Event) (i : ℕ) (d : Event) (f g : ℕ → ℕ) → i < length es → ((q : ℕ) → g q ≡ max (f q) (entry h (getD es i d) q)) → Reaches h es i f → Reaches h es (i + 1) g
+  reaches-more es i d f g inside joined so q = omega (arith, so q, at-drop-more (λ (xs : List Event). farthest h xs q) es i d inside, joined q)
 
   pub reaches-all : (es : List Event) (i : ℕ) (f : ℕ → ℕ) → length es ≤ i → Reaches h es i f → (q : ℕ) → f q ≡ farthest h es q
   reaches-all es i f past so q = omega (arith, so q, at-drop-all (λ (xs : List Event). farthest h xs q) es i past)
@@ -142,10 +140,10 @@ above-both a b q x y l r u = grind (arith, tells)
 pub hears-first : (h : History) (es : List Event) (e : Event) (bits : ℕ) (g : ℕ → ℕ) → 0 < length es → e ≡ getD es 0 e → ((q : ℕ) → g q ≡ entry h e q) → Above bits 64 g → Hears h es 0 bits
 hears-first h es e bits g some is told above = (g, (above, reaches-first h es e g some is told))
 
-pub hears-more : (h : History) (es : List Event) (i : ℕ) (e d : Event) (a b : ℕ) (g : ℕ → ℕ) → i < length es → e ≡ getD es i d → ((q : ℕ) → g q ≡ entry h e q) → Above b 64 g → Hears h es i a → Hears h es (i + 1) (bitOr a b)
-hears-more h es i e d a b g inside is told above so = (
+pub hears-more : (h : History) (es : List Event) (i : ℕ) (d : Event) (a b : ℕ) (g : ℕ → ℕ) → i < length es → ((q : ℕ) → g q ≡ entry h (getD es i d) q) → Above b 64 g → Hears h es i a → Hears h es (i + 1) (bitOr a b)
+hears-more h es i d a b g inside told above so = (
   λ q. max (so .0 q) (g q),
-  (λ q. above-both a b q (so .0 q) (g q) (so .1 .0 q) (above q) (has-union a b q), reaches-more h es i e d (so .0) _ inside is (λ q. ap (max (so .0 q)) (told q)) (so .1 .1)),
+  (λ q. above-both a b q (so .0 q) (g q) (so .1 .0 q) (above q) (has-union a b q), reaches-more h es i d (so .0) _ inside (λ q. ap (max (so .0 q)) (told q)) (so .1 .1)),
 )
 
 below-power : (n : ℕ) (test : ℕ → Bool) → gathered n test < 2 ^ n
@@ -222,7 +220,7 @@ farthest-same h (e ∷ es) (f ∷ fs) same q =
     let to : Event → ℕ = λ x. entry h x q in
     sym (joined-largest (to e) (map to es))
     ∙ order-free max (λ x y z. omega arith) (λ x y. omega arith) (λ x. omega arith) (to e) (map to es) (to f) (map to fs)
-      (λ y. (same-map to (e ∷ es) (f ∷ fs) (λ x. same x .0) y, same-map to (f ∷ fs) (e ∷ es) (λ x. same x .1) y))
+    (λ y. (same-map to (e ∷ es) (f ∷ fs) (λ x. same x .0) y, same-map to (f ∷ fs) (e ∷ es) (λ x. same x .1) y))
     ∙ joined-largest (to f) (map to fs)
 
 cases-option : (o : Option ℕ) → (o ≡ None) ⊎ ((i : ℕ) × (o ≡ Some i))
