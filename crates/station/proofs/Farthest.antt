@@ -7,7 +7,7 @@ use Prim.Native.Nat.{ℕ, zero, suc, _+_, _^_, _≤_, _<_, max}
 use native.Mathlib.Nat.{add-zero, one-mul, pow-suc}
 use native.Mathlib.Omega.{arith}
 use lib.Bits.{bitOr, or-shifted-r}
-use lib.Dec.{eqb, ltb, leb}
+use lib.Dec.{eqb, ltb}
 use lib.ListN.{length, getD, drop}
 use Rattle.cluster.specs.Kept.{largest}
 use Rattle.join.proofs.Folds.{order-free}
@@ -17,19 +17,17 @@ use Rattle.order.proofs.PostSets.{has-empty, has-union, has-insert, same-set}
 use Rattle.order.specs.History.{History, Valid}
 use Rattle.order.specs.Posts.{has}
 use Rattle.order.specs.declared.event.Event.{Event}
-use Rattle.order.specs.declared.posts.PostSet.{PostSet}
-use Rattle.std.proofs.shelf.Counted.{fill-by-all}
 use Rattle.std.proofs.shelf.Lists.{at-drop-more, at-drop-all}
-use Rattle.std.proofs.shelf.Tests.{cases-bool, cases-eq, cases-lt, cond-true, cond-false, lt-ltb, le-ltb, and-from, and-left, and-right, both-ways}
+use Rattle.std.proofs.shelf.Tests.{cases-bool, cases-eq, cases-lt, cond-true, cond-false, le-ltb, and-left}
 use Rattle.std.proofs.shelf.Ways.{tells}
 use Rattle.std.specs.Iters.{counting}
 use Rattle.std.specs.declared.option.Option.{Option}
 use Rattle.std.specs.declared.option.Option.the-variants.{Some, None}
 use Rattle.std.specs.declared.result.Result.{Result}
 use Rattle.std.specs.declared.result.Result.the-variants.{Ok, Err}
-use Rattle.station.proofs.Reading.{Known, known}
+use Rattle.station.proofs.Reading.{known}
 use Rattle.station.proofs.VectorReading.{vec-past}
-use Rattle.station.specs.Asks.{knows, missing, of-list, entry, farthest, gathered, hears, horizons, listed, Same-answers}
+use Rattle.station.specs.Asks.{knows, missing, of-list, entry, farthest, gathered, horizons, listed, Same-answers}
 use Rattle.station.specs.declared.asks.AskFault.{AskFault}
 use Rattle.station.specs.declared.asks.AskFault.the-variants.{NoEvents, NotHeld, SliceLength}
 
@@ -41,9 +39,6 @@ Above bits i f = (q : ℕ) → has bits q ≡ (ltb q i && ltb 0 (f q))
 
 pub above-none : (bits : ℕ) (f : ℕ → ℕ) → bits ≡ 0 → Above bits 0 f
 above-none bits f z q = ap (λ (b : ℕ). has b q) z ∙ has-empty q ∙ sym (and-left _ _ (le-ltb q 0 (omega arith)))
-
-above-other : (bits i q : ℕ) (f : ℕ → ℕ) → (q ≡ i → ⊥) → has bits q ≡ (ltb q i && ltb 0 (f q)) → has bits q ≡ (ltb q (i + 1) && ltb 0 (f q))
-above-other bits i q f ne was = grind (arith, tells)
 
 pub above-with : (was is i : ℕ) (f : ℕ → ℕ) → i < 64 → 0 < f i → ((q : ℕ) → has is q ≡ (has was q || (eqb q i && ltb q 64))) → Above was i f → Above is (i + 1) f
 above-with was is i f few some added a q = elim (cases-eq q i) [
@@ -95,13 +90,9 @@ module _ (n : ℕ) (h : History) where
   first-held [] e some is none = absurd (omega arith)
   first-held (x ∷ es) e some is none = ap (knows n h) is ∙ head-held x es 0 none
 
--- a refusal is the refusal of every answer
-pub listed-err : {A B : Type 0} (r : Result A AskFault) (s : Result B AskFault) (f : AskFault) → r ≡ Err f → listed r ≡ listed s → s ≡ Err f
-listed-err r (Ok x) f e same = let z : Some f ≡ None = sym (ap listed e) ∙ same in cc
-listed-err r (Err x) f e same = let z : Some f ≡ Some x = sym (ap listed e) ∙ same in let y : x ≡ f = cc in ap Err y
-
-pub listed-ok : {A : Type 0} {B : Type 0} (r : Result A AskFault) (s : Result B AskFault) (x : A) → r ≡ Ok x → listed r ≡ listed s → listed s ≡ None
-listed-ok r s x e same = sym same ∙ ap listed e
+pub listed-none : (r : Result (Unit {0}) AskFault) → None ≡ listed r → r ≡ Ok tt
+listed-none (Ok tt) e = refl
+listed-none (Err f) e = let z : _≡_ {A = ℕ} 0 1 = cc in absurd (omega arith)
 
 -- ---- what they reach
 

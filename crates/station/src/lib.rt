@@ -7,7 +7,7 @@ mod entering;
 pub mod faults;
 mod feeding;
 mod judge;
-mod lists;
+pub mod lists;
 mod opening;
 mod readers;
 mod stamping;

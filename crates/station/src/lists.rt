@@ -95,9 +95,9 @@ impl<P: Policy, K: Keeper> Station<P, K> {
             return Err(AskFault::NoEvents);
         };
         let mut reach = Running::new(self.vector(*first));
-        for (place, event) in events.iter().enumerate() {
+        for (index, event) in events.iter().enumerate() {
             if !self.holds(*event) {
-                return Err(AskFault::NotHeld { place });
+                return Err(AskFault::NotHeld { place: index });
             }
             reach.add(self.vector(*event));
         }

@@ -8,8 +8,8 @@ use Rattle.station.specs.Drafts.{at}
 use Rattle.station.specs.Stands.{Stands}
 use Rattle.std.specs.declared.option.Option.the-variants.{None}
 
-abbrev pub Inv-loop-place : given.InvT-loop-place
-Inv-loop-place g l = (length (l .reach .value .entries) ≡ 64) ×
+abbrev pub Inv-loop-index : given.InvT-loop-index
+Inv-loop-index g l = (length (l .reach .value .entries) ≡ 64) ×
     ((h : History) → Stands (g .P·Policy .rule) (g .K·Keeper .sound) (g .K·Keeper .meaning) (l .self) h
-    → (missing (g .K·Keeper .meaning (l .self .keeper) .posts) h (drop (l .place) (l .events)) (l .place) ≡ missing (g .K·Keeper .meaning (l .self .keeper) .posts) h (l .events) 0)
-    × (missing (g .K·Keeper .meaning (l .self .keeper) .posts) h (l .events) 0 ≡ None → Reaches h (l .events) (l .place) (at (l .reach .value))))
+    → (missing (g .K·Keeper .meaning (l .self .keeper) .posts) h (drop (l .index) (l .events)) (l .index) ≡ missing (g .K·Keeper .meaning (l .self .keeper) .posts) h (l .events) 0)
+    × (missing (g .K·Keeper .meaning (l .self .keeper) .posts) h (l .events) 0 ≡ None → Reaches h (l .events) (l .index) (at (l .reach .value))))
