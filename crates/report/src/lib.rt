@@ -10,14 +10,15 @@ use cluster::policy::Policy;
 use keeper::Keeper;
 use keeper::admit::price;
 use order::record::RECORD_LEN;
-use std::alloc::AllocError;
-use std::alloc::Global;
-use std::fmt;
 use station::core::Station;
 use station::faults::FeedFault;
 use station::faults::Taken;
+use std::alloc::AllocError;
+use std::alloc::Global;
+use std::fmt;
 
 pub mod input;
+pub mod program;
 
 // An event that was taken: its name, what the cluster rule made of it, and the number of entries kept.
 #[derive(Clone, Copy)]
@@ -70,7 +71,11 @@ pub struct Report {
 }
 
 // Takes each record of a feed in order, up to the first that is refused.
-pub fn work<P: Policy + Drop, K: Keeper + Drop>(heap: Global, station: &mut Station<P, K>, feed: &[u8]) -> Result<Report, AllocError>
+pub fn work<P: Policy + Drop, K: Keeper + Drop>(
+    heap: Global,
+    station: &mut Station<P, K>,
+    feed: &[u8],
+) -> Result<Report, AllocError>
     ensures { λ r. ⌜ made r (λ x. Reported (now (feed .entry)) x) ⌝ }
 {
     let mut lines = Vec::new(heap);

@@ -104,12 +104,12 @@ module _ {P K : Type 0} (rule : P → Rule) (sound : K → Type 0) (meaning : K 
       let stamp = kept R n h (e .post) (e .number) in
       let here : Ok x ≡ cond (has (stamp .cover) q) (Ok (entry-of stamp q)) (Err NotCovered) = read ∙ asked e (λ t. cond (has (t .cover) q) (Ok (entry-of t q)) (Err NotCovered)) k in
       elim (cases-bool (has (stamp .cover) q)) [
-        inl t ↦
-          let is : Ok x ≡ Ok (entry-of stamp q) = here ∙ cond-true _ _ _ t in
-          let same : x ≡ entry-of stamp q = cc in
-          same ∙ kept-entry R n h (e .post) (e .number) q (omega (arith, st .few)) (sym (ap (λ (c : ℕ). has c q) (kept-cover R n h (e .post) (e .number))) ∙ t)
-      | inr f ↦
-          let no-entry : Ok x ≡ Err NotCovered = here ∙ cond-false _ _ _ f in
-          let z : _≡_ {A = ℕ} 0 1 = cc in
-          absurd (omega arith)
+        | inl t ↦
+            let is : Ok x ≡ Ok (entry-of stamp q) = here ∙ cond-true _ _ _ t in
+            let same : x ≡ entry-of stamp q = cc in
+            same ∙ kept-entry R n h (e .post) (e .number) q (omega (arith, st .few)) (sym (ap (λ (c : ℕ). has c q) (kept-cover R n h (e .post) (e .number))) ∙ t)
+        | inr f ↦
+            let no-entry : Ok x ≡ Err NotCovered = here ∙ cond-false _ _ _ f in
+            let z : _≡_ {A = ℕ} 0 1 = cc in
+            absurd (omega arith)
       ]

@@ -37,16 +37,16 @@ use Rattle.station.specs.declared.faults.Taken.{Taken}
 pub takes-judged : (P : Rule) (n : ℕ) (h : History) (b : Bytes) (space : ℕ) (f : TakeFault) → Err f ≡ judged n h b → Err f ≡ takes P n h space b
 unfolding verdict
 takes-judged P n h b space f e = elim (cases-bool (eqb (ground n h b) 0)) [
-    inl t ↦ let passes = e ∙ when _ _ _ t in let z : _≡_ {A = ℕ} 0 1 = cc in absurd (omega arith)
+  | inl t ↦ let passes = e ∙ when _ _ _ t in let z : _≡_ {A = ℕ} 0 1 = cc in absurd (omega arith)
   | inr u ↦ let refused : Err f ≡ Err (refusal (ground n h b)) = e ∙ unless _ _ _ u in let same : f ≡ refusal (ground n h b) = cc in ap Err same ∙ sym (unless _ _ _ u)
-  ]
+]
 
 pub judged-record : (n : ℕ) (h : History) (b : Bytes) (r : Record) → Ok r ≡ judged n h b → r ≡ recordOf b
 unfolding verdict
 judged-record n h b r e = elim (cases-bool (eqb (ground n h b) 0)) [
-    inl t ↦ let passes = e ∙ when _ _ _ t in cc
+  | inl t ↦ let passes = e ∙ when _ _ _ t in cc
   | inr u ↦ let refused = e ∙ unless _ _ _ u in let z : _≡_ {A = ℕ} 0 1 = cc in absurd (omega arith)
-  ]
+]
 
 -- a two-byte number
 pub number-small : (b : Bytes) → getD b 2 0 < 256 → getD b 3 0 < 256 → number b ≤ 65535

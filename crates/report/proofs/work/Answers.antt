@@ -26,11 +26,19 @@ returns-in-Err g c = record { stops = omega (arith, c .loop-taken .inv .0); pric
 
 pub loop-taken-again : need.loop-taken-again
 loop-taken-again g c =
-    let pushed = c .in-Continue-push .ensures tt in
-    (omega (arith, pushed .len, c .loop-taken .inv .0),
-     omega (arith, c .saturating-add-prices .ensures, c .price .ensures, c .line-of .ensures .answer .1, c .loop-taken .inv .1,
-       ap cost (pushed .items), cost-push (vec-items (c .loop-taken .lines)) (c .line-of .result)),
-     c .loop-taken .inv .2)
+    let pushed = c .in-Continue-push .ensures tt in (
+      omega (arith, pushed .len, c .loop-taken .inv .0),
+      omega (
+        arith,
+        c .saturating-add-prices .ensures,
+        c .price .ensures,
+        c .line-of .ensures .answer .1,
+        c .loop-taken .inv .1,
+        ap cost (pushed .items),
+        cost-push (vec-items (c .loop-taken .lines)) (c .line-of .result),
+      ),
+      c .loop-taken .inv .2,
+    )
 
 pub returns : need.returns
 returns g c = record { stops = omega (arith, c .loop-taken .inv .0, c .loop-taken .inv .2, c .loop-taken-test .left, c .loop-taken .kept .taken-end); prices = c .loop-taken .inv .1 }

@@ -16,8 +16,8 @@ pub returns-in-Break-record : need.returns-in-Break-record
 returns-in-Break-record g c = record {
   barred = λ t. absurd (both-ways _ (c .if-self .left) t);
   took = λ h st.
-    let p = err-from-errBy (c .from-residual .result) (c .from-residual .ensures .1) in
-    subst (λ r. Took (g .P·Policy .rule) (g .K·Keeper .sound) (g .K·Keeper .meaning) (c .args .self .now) (c .args .self .now) h (c .args .bytes .now) r) (sym (p .1 ∙ ap Err (p .2)))
+      let p = err-from-errBy (c .from-residual .result) (c .from-residual .ensures .1) in
+      subst (λ r. Took (g .P·Policy .rule) (g .K·Keeper .sound) (g .K·Keeper .meaning) (c .args .self .now) (c .args .self .now) h (c .args .bytes .now) r) (sym (p .1 ∙ ap Err (p .2)))
       (took-judged _ _ _ (c .args .self .now) h (c .args .bytes .now) st _ (sym (c .in-Break-record .was tt) ∙ c .judge .ensures h st));
 }
 
@@ -25,9 +25,9 @@ pub returns : need.returns
 returns g c = record {
   barred = λ t. absurd (both-ways _ (c .if-self .left) t);
   took = λ h st.
-    let b = c .args .bytes .now in
-    let read = sym (c .in-Continue-record .was tt) ∙ c .judge .ensures h st in
-    let ok = verdict-ok _ _ _ read in
-    let is = judged-record _ h b (c .in-Continue-record .«record») read in
-    c .enter .ensures h b st (number-small b (c .typed .bytes 2 .fits) (c .typed .bytes 3 .fits)) ok (c .draft-draft .ensures h b st ok is);
+      let b = c .args .bytes .now in
+      let read = sym (c .in-Continue-record .was tt) ∙ c .judge .ensures h st in
+      let ok = verdict-ok _ _ _ read in
+      let is = judged-record _ h b (c .in-Continue-record .«record») read in
+      c .enter .ensures h b st (number-small b (c .typed .bytes 2 .fits) (c .typed .bytes 3 .fits)) ok (c .draft-draft .ensures h b st ok is);
 }
