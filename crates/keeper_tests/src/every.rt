@@ -74,6 +74,27 @@ fn visited<K: Keeper>(pile: &mut K, first: Event, second: Event) -> Result<(), F
     check_eq(visit(pile, one, two, 2)?, expected)
 }
 
+// Appends to three posts, of which post 1 has no space.
+fn appends_refused<K: Keeper>(pile: &mut K) -> Result<(), Fail> {
+    let no_space = KeeperFault::NoSpace { wanted: 8, left: 0 };
+    let appends: [(u8, u64, &[u16], KeeperFault); 7] = [
+        // an unknown post, a bad cover and no space
+        (3, 8, &[], KeeperFault::UnknownPost),
+        (255, 0, &[0; 65], KeeperFault::UnknownPost),
+        // a bad cover and no space: a post too many, an entry too few, an entry too many
+        (1, 8, &[1], KeeperFault::BadCover),
+        (1, 7, &[1, 2], KeeperFault::BadCover),
+        (1, 0, &[1], KeeperFault::BadCover),
+        (1, 8, &[], KeeperFault::BadCover),
+        (1, 0, &[], no_space),
+    ];
+    for (post, cover, entries, fault) in appends {
+        let stamp = draft(post, Kind::Local, cover, 0, entries);
+        check_eq(pile.append(post, stamp.header, entries), Err(fault))?;
+    }
+    Ok(())
+}
+
 // The fault of each question on a stamp, of the entry for a post, and of a mark.
 fn asked<K: Keeper>(pile: &mut K, event: Event, post: u8) -> [Option<KeeperFault>; 6] {
     [
@@ -86,24 +107,8 @@ fn asked<K: Keeper>(pile: &mut K, event: Event, post: u8) -> [Option<KeeperFault
     ]
 }
 
-// Over three posts, of which post 1 has two stamps, the first for posts 0 and 2, and no space.
-fn refused<K: Keeper>(pile: &mut K) -> Result<(), Fail> {
-    let full = KeeperFault::NoSpace { wanted: 8, left: 0 };
-    let appends: [(u8, u64, &[u16], KeeperFault); 7] = [
-        // an unknown post, a bad cover and no space
-        (3, 8, &[], KeeperFault::UnknownPost),
-        (255, 0, &[0; 65], KeeperFault::UnknownPost),
-        // a bad cover and no space: a post too many, an entry too few, an entry too many
-        (1, 8, &[1], KeeperFault::BadCover),
-        (1, 7, &[1, 2], KeeperFault::BadCover),
-        (1, 0, &[1], KeeperFault::BadCover),
-        (1, 8, &[], KeeperFault::BadCover),
-        (1, 0, &[], full),
-    ];
-    for (post, cover, entries, fault) in appends {
-        let stamp = draft(post, Kind::Local, cover, 0, entries);
-        check_eq(pile.append(post, stamp.header, entries), Err(fault))?;
-    }
+// Questions on three posts, of which post 1 has two stamps, the first for posts 0 and 2.
+fn questions_refused<K: Keeper>(pile: &mut K) -> Result<(), Fail> {
     let unknown = Some(KeeperFault::UnknownPost);
     let not_held = Some(KeeperFault::NotHeld);
     let not_covered = Some(KeeperFault::NotCovered);
@@ -140,7 +145,8 @@ fn tried<K: Keeper + Drop>(mut pile: K) -> Result<(), Fail> {
         Event { post: 1, number: 1 },
         Event { post: 1, number: 2 },
     )?;
-    refused(&mut pile)
+    appends_refused(&mut pile)?;
+    questions_refused(&mut pile)
 }
 
 #[test]
