@@ -17,8 +17,6 @@ use order::posts::PostSetDebug;
 use order::posts::PostSetPartialEq;
 
 pub mod stacks;
-#[cfg(test)]
-mod tests;
 
 // A stamp to put in.
 #[derive(Clone, Copy)]
@@ -45,13 +43,13 @@ pub struct Seen {
     pub entry: Result<u16, KeeperFault>,
 }
 
-#[derive(Clone, Copy)]
+#[derive(Clone, Copy, PartialEq, Eq, Debug)]
 pub struct Told {
     pub put: Put,
     pub seen: Seen,
 }
 
-#[derive(Clone, Copy)]
+#[derive(Clone, Copy, PartialEq, Eq, Debug)]
 pub struct Report {
     pub first: Told,
     pub second: Told,
