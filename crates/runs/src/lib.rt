@@ -1,3 +1,6 @@
 // Lists of calls made of stations, and the comparison of two stations.
+pub mod comparing;
+pub mod playing;
+pub mod replaying;
 pub mod shift;
 pub mod turns;
