@@ -6,11 +6,11 @@ use Prim.Native.Nat.{ℕ, zero, suc, _<_}
 use native.Mathlib.Omega.{arith}
 use Rattle.std.proofs.shelf.Tests.{cases-eq}
 use Rattle.cluster.specs.Rules.{Rule}
-use Rattle.keeper.specs.Piles.{Pile, held-count}
+use Rattle.keeper.specs.Piles.{Pile, held-count, fresh}
 use Rattle.station.specs.Stands.{Unused}
 use Rattle.station.specs.declared.core.Station.{Station}
 use Rattle.runs.specs.Calls.{Call, Reply, barred}
-use Rattle.runs.specs.Comparison.{Relate-alike, Alike-until-space, Used, Each, Opened-alike}
+use Rattle.runs.specs.Comparison.{Relate-alike, Alike-until-space, Used, Each, Opened-alike, Compared}
 use Rattle.runs.specs.Runs.{Run}
 use Rattle.runs.proofs.Alike.{equal-turns, barred-alike}
 use Rattle.runs.proofs.Relates.{relate-alike, barred-left, barred-right}
@@ -51,3 +51,16 @@ turns-alike P Q m n cs ds xs ys a b o same = elim (o .both) [
   | inr full ↦
       subst₂ Alike-until-space (sym (a .used (full .0))) (ap (map barred) same ∙ sym (b .used (full .1))) (barred-alike cs)
 ]
+
+-- both stations over piles as they are opened
+pub fresh-compared : (P Q : Rule) (m n : Pile) (j k : ℕ) (s t : ℕ → ℕ) (cs ds : List Call) (xs ys : List Reply) → m ≡ fresh j s → n ≡ fresh k t → Each P m cs xs → Each Q n ds ys
+    → Compared P Q (fresh j s) (fresh k t) cs ds xs ys
+fresh-compared P Q m n j k s t cs ds xs ys e f x y =
+    let a = subst (λ (i : Pile). Each P i cs xs) e x in
+    let b = subst (λ (i : Pile). Each Q i ds ys) f y in
+    record {
+      relate = related-alike P Q (fresh j s) (fresh k t) cs ds xs ys a b;
+      equal-turns = λ rules posts same.
+          turns-alike P Q (fresh j s) (fresh k t) cs ds xs ys a b (record { same-rule = rules; same-posts = posts; both = inl (λ p l. refl, λ p l. refl) }) same;
+      each = (a .unused (λ p l. refl), b .unused (λ p l. refl));
+    }

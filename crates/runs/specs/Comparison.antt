@@ -55,3 +55,9 @@ pub record Opened-alike (P Q : Rule) (m n : Pile) : Type 0 where
   pub same-rule : SameRule P Q
   pub same-posts : m .posts ≡ n .posts
   pub both : (Unused m × Unused n) ⊎ (Used m × Used n)
+
+-- The comparison of two stations over piles without stamps: no premise is left.
+pub record Compared (P Q : Rule) (m n : Pile) (cs ds : List Call) (xs ys : List Reply) : Type 0 where
+  pub relate : Relate-alike cs xs ds ys
+  pub equal-turns : SameRule P Q → m .posts ≡ n .posts → cs ≡ ds → Alike-until-space xs ys
+  pub each : Run P (m .posts) [] (m .space) cs xs × Run Q (n .posts) [] (n .space) ds ys
