@@ -13,7 +13,9 @@ use Rattle.keeper.specs.Piles.{Pile, Stamp, held-count, stamp-of, no-stamp, wi
 use Rattle.keeper.specs.declared.fault.KeeperFault.{KeeperFault}
 use Rattle.std.proofs.shelf.Lists.{length-push, length-set, getD-push, getD-append-left, getD-set-same, getD-set-other}
 use Rattle.std.proofs.shelf.Tests.{cases-eq, and-from, lt-ltb, le-leb}
+use Rattle.std.proofs.shelf.Ways.{tells}
 use Rattle.std.specs.declared.result.Result.{Result}
+use Rattle.std.specs.declared.result.Result.the-variants.{Ok}
 
 -- Stamp k of post p is s.
 pub record Holds (m : Pile) (p k : ℕ) (s : Stamp) : Type 0 where
@@ -21,6 +23,15 @@ pub record Holds (m : Pile) (p k : ℕ) (s : Stamp) : Type 0 where
   pub some : 0 < k
   pub within : k ≤ held-count m p
   pub stamp : stamp-of m p k ≡ s
+
+-- what is known of a stamp that is found
+pub record Located (posts count p k : ℕ) : Type 0 where
+  pub known : p < posts
+  pub some : 0 < k
+  pub within : k ≤ count
+
+pub located : {A : Type 0} (posts count p k : ℕ) (x : A) → Ok x ≡ of-stamp posts count p k (Ok x) → Located posts count p k
+located posts count p k x e = record { known = grind (arith, tells); some = grind (arith, tells); within = grind (arith, tells) }
 
 -- a question about a held stamp is answered by that stamp
 pub asked
@@ -31,8 +42,9 @@ asked m p k s field h =
     let held = and-from (ltb 0 k) (leb k (held-count m p)) (lt-ltb 0 k (h .some)) (le-leb k (held-count m p) (h .within)) in
     rw (known, held) (ap field (h .stamp))
 
-at-same : (m n : Pile) (p k : ℕ) (s : Stamp) → n .posts ≡ m .posts → n .stamps p ≡ m .stamps p → Holds m p k s → Holds n p k s
-at-same m n p k s posts same h =
+-- a post's stamps that stay as they were
+pub holds-same : (m n : Pile) (p k : ℕ) (s : Stamp) → n .posts ≡ m .posts → n .stamps p ≡ m .stamps p → Holds m p k s → Holds n p k s
+holds-same m n p k s posts same h =
     record {
       known = omega (arith, h .known);
       some = h .some;
@@ -59,7 +71,7 @@ pub holds-append
 holds-append was is p q k s t a h =
     elim (cases-eq q p) [
       | inl same ↦ subst (λ (x : ℕ). Holds is x k t) (sym same) (own (subst (λ (x : ℕ). Holds was x k t) same h))
-      | inr ne ↦ at-same was is q k t (a .same-posts) (a .others q ne) h
+      | inr ne ↦ holds-same was is q k t (a .same-posts) (a .others q ne) h
     ]
   where
     own : Holds was p k t → Holds is p k t
@@ -97,7 +109,7 @@ pub holds-mark
 holds-mark was is p k q j t m some apart h =
     elim (cases-eq q p) [
       | inl same ↦ subst (λ (x : ℕ). Holds is x j t) (sym same) (own (apart same) (subst (λ (x : ℕ). Holds was x j t) same h))
-      | inr ne ↦ at-same was is q j t (m .same-posts) (m .others q ne) h
+      | inr ne ↦ holds-same was is q j t (m .same-posts) (m .others q ne) h
     ]
   where
     own : (j ≡ k → ⊥) → Holds was p j t → Holds is p j t

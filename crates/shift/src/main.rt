@@ -1,58 +1,35 @@
-// A shift of a kiln: takes the records on standard input and says which events they report.
-ghost use Prim.Native.Nat.{_≤_};
-ghost use lib.ListN.{length};
-ghost use Rattle.std.specs.Vec.{made};
+// A shift of a kiln: feeds standard input to a station of four posts and prints what became of each record.
+use cluster::policy::FirstContact;
+use cluster::policy::FirstContactPolicy;
+use pool::PoolKeeper;
+use report::LineDisplay;
+use report::input::fill;
+use report::work;
+use std::error::AnyError;
+use station::core::Station;
 
-mod scan;
-
-use order::record::RECORD_LEN;
-use order::record::Record;
-use scan::POSTS;
-use scan::Scan;
-use std::io;
-use std::io::Read;
-
-// How much of the input is taken.
+// How much of the input is taken, and what the station has.
 const MOST: usize = 65_536;
+const POSTS: u8 = 4;
+const LIMIT: u8 = 2;
+const CELLS: usize = 4_096;
 
-// Fills the buffer from its start, and says how far the input went.
-fn fill<R: Read>(input: &mut R, buffer: &mut [u8]) -> io::Result<usize>
-    ensures { λ r. ⌜ made r (λ n. n ≤ length (now (buffer .entry))) ⌝ }
-{
-    let mut len = 0;
-    while len < buffer.len() {
-        let more = input.read(&mut buffer[len..])?;
-        if more == 0 {
-            break;
-        }
-        len += more;
-    }
-    Ok(len)
-}
-
-// A line for each of the first `taken` records.
-fn print_events(rt: &LibcRuntime, feed: &[u8], taken: usize) -> io::Result<()> {
-    for bytes in feed.chunks_exact(RECORD_LEN).take(taken) {
-        if let Ok(record) = Record::read(bytes, POSTS) {
-            let post = record.event.post;
-            let number = record.event.number;
-            println!(rt, "{post} {number}")?;
-        }
-    }
-    Ok(())
-}
-
-fn main(rt: LibcRuntime) -> io::Result<()> {
-    let mut buffer = [0; MOST];
+fn main(rt: LibcRuntime) -> Result<(), AnyError> {
+    let mut buffer = vec![in rt.alloc(); 0u8; MOST]?;
     let len = fill(&mut rt.stdin(), &mut buffer)?;
-    let feed = &buffer[0..len];
-    let scan = Scan::of(feed);
-    let taken = scan.taken;
-    print_events(&rt, feed, taken)?;
-    if let Some(refusal) = scan.refusal {
-        let ground = refusal.ground;
-        let place = refusal.place;
+    let mut cells = vec![in rt.alloc(); 0u16; CELLS]?;
+    let mut station = Station::open(FirstContact::new(LIMIT), pool::open(POSTS, &mut cells));
+    let report = work(rt.alloc(), &mut station, &buffer[0..len])?;
+    for line in report.lines.iter() {
+        println!(rt, "{line}")?;
+    }
+    if let Some(fault) = report.refusal {
+        let ground = fault.ground();
+        let place = fault.place();
         println!(rt, "refused {ground} {place}")?;
     }
-    println!(rt, "end {taken}")
+    let taken = report.lines.len();
+    let prices = report.prices;
+    println!(rt, "end {taken} {prices}")?;
+    Ok(())
 }

@@ -16,7 +16,7 @@ use Rattle.cluster.specs.Clusters.{cluster, cover, merged, outcome, latest-full
 use Rattle.cluster.specs.Kept.{kept}
 use Rattle.cluster.specs.Partitions.{clusters, joined}
 use Rattle.cluster.specs.Rules.{Rule}
-use Rattle.cluster.specs.Traffic.{Tells}
+use Rattle.cluster.specs.Counts.{Tells}
 use Rattle.cluster.specs.declared.exchanges.Exchanges.{Exchanges}
 use Rattle.cluster.specs.declared.outcome.Outcome.{Outcome}
 use Rattle.cluster.specs.declared.outcome.Outcome.the-variants.{Plain, Merged, Across}

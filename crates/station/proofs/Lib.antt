@@ -1,6 +1,8 @@
 pub mod Entered
+pub mod FeedSteps
 pub mod Held
 pub mod Judged
+pub mod Opened
 pub mod Reading
 pub mod StampReading
 pub mod Standing

@@ -1,26 +1,30 @@
 -- What the keeper of a station that stands at a history answers.
-use mathlib.Core.Bool.{Bool, true, false, _&&_}
+use mathlib.Core.Bool.{Bool, true, false, cond, _&&_}
 use mathlib.Core.Logic.{inl, inr}
 use mathlib.Core.Path.{_≡_, refl, sym, ap, _∙_, subst}
 use Prim.Native.Nat.{ℕ, _-_, _^_, _*_, _≤_, _<_}
 use native.Mathlib.Omega.{arith}
 use lib.Dec.{eqb, ltb, leb}
 use lib.ListN.{length}
+use Rattle.cluster.proofs.Kept.{kept-cover, kept-entry}
 use Rattle.cluster.specs.Kept.{kept}
 use Rattle.cluster.specs.Rules.{Rule}
-use Rattle.keeper.specs.Answers.{ask-stamp, ask-kind}
-use Rattle.keeper.specs.Piles.{Pile, Stamp}
+use Rattle.keeper.specs.Answers.{ask-stamp, ask-kind, ask-entry}
+use Rattle.keeper.specs.Piles.{Pile, Stamp, entry-of}
 use Rattle.keeper.specs.declared.fault.KeeperFault.{KeeperFault}
+use Rattle.keeper.specs.declared.fault.KeeperFault.the-variants.{NotCovered}
 use Rattle.order.proofs.Held.{length-most}
 use Rattle.order.specs.History.{History, count, held, kind-at}
+use Rattle.order.specs.Posts.{has}
 use Rattle.order.specs.Records.{kind-named}
+use Rattle.order.specs.Vectors.{vec}
 use Rattle.order.specs.declared.event.Event.{Event}
 use Rattle.order.specs.declared.event.Kind.{Kind}
 use Rattle.order.specs.declared.event.Kind.the-variants.{Local, Send, Receive}
 use Rattle.std.proofs.shelf.Bits.{mul-le}
-use Rattle.std.proofs.shelf.Tests.{and-parts, and-from, cond-true, cond-false, cases-eq, ltb-true, leb-true, lt-ltb, le-leb, eq-eqb, ne-eqb}
+use Rattle.std.proofs.shelf.Tests.{and-parts, and-from, cond-true, cond-false, cases-bool, cases-eq, ltb-true, leb-true, lt-ltb, le-leb, eq-eqb, ne-eqb}
 use Rattle.std.specs.declared.result.Result.{Result}
-use Rattle.std.specs.declared.result.Result.the-variants.{Ok}
+use Rattle.std.specs.declared.result.Result.the-variants.{Ok, Err}
 use Rattle.station.specs.Asks.{knows}
 use Rattle.station.specs.Entries.{Holds}
 use Rattle.station.specs.Stands.{Stands}
@@ -90,3 +94,22 @@ module _ {P K : Type 0} (rule : P → Rule) (sound : K → Type 0) (meaning : K 
   history-short =
       let n = meaning (s .keeper) .posts in
       omega (arith, length-most (st .valid) 65535 (st .small), mul-le n 65535 64 65535 (st .few) (omega arith))
+
+  -- an entry that is read is the event's own
+  pub read-kept-entry : (e : Event) → Known (meaning (s .keeper) .posts) h e → (q : ℕ) → q < meaning (s .keeper) .posts → (x : ℕ)
+      → Ok x ≡ ask-entry (meaning (s .keeper)) e q → x ≡ vec h (e .post) (e .number) q
+  read-kept-entry e k q inside x read =
+      let R = rule (s .policy) in
+      let n = meaning (s .keeper) .posts in
+      let stamp = kept R n h (e .post) (e .number) in
+      let here : Ok x ≡ cond (has (stamp .cover) q) (Ok (entry-of stamp q)) (Err NotCovered) = read ∙ asked e (λ t. cond (has (t .cover) q) (Ok (entry-of t q)) (Err NotCovered)) k in
+      elim (cases-bool (has (stamp .cover) q)) [
+        inl t ↦
+          let is : Ok x ≡ Ok (entry-of stamp q) = here ∙ cond-true _ _ _ t in
+          let same : x ≡ entry-of stamp q = cc in
+          same ∙ kept-entry R n h (e .post) (e .number) q (omega (arith, st .few)) (sym (ap (λ (c : ℕ). has c q) (kept-cover R n h (e .post) (e .number))) ∙ t)
+      | inr f ↦
+          let no-entry : Ok x ≡ Err NotCovered = here ∙ cond-false _ _ _ f in
+          let z : _≡_ {A = ℕ} 0 1 = cc in
+          absurd (omega arith)
+      ]

@@ -1,25 +1,24 @@
 -- What the stamp that a record is to have takes from the history.
-use mathlib.Core.Bool.{Bool, true, false, cond}
+use mathlib.Core.Bool.{Bool, true, false}
 use mathlib.Core.List.{List, [], _∷_, _++_, map}
-use mathlib.Core.Logic.{_⊎_, inl, inr}
-use mathlib.Core.Path.{_≡_, refl, sym, ap, _∙_, subst}
-use Prim.Native.Nat.{ℕ, suc, _+_, _-_, _*_, _^_, _≤_, _<_, min}
+use mathlib.Core.Logic.{inl, inr}
+use mathlib.Core.Path.{_≡_, sym, ap, _∙_, fun-ext, subst}
+use Prim.Native.Nat.{ℕ, _+_, _-_, _^_, _≤_, _<_, min}
 use native.Mathlib.Numerals.{add-one}
 use native.Mathlib.Omega.{arith}
 use lib.Bits.{bitOr}
-use lib.Dec.{eqb, ltb, leb}
-use lib.ListN.{length, take, set, getD}
+use lib.Dec.{eqb}
+use lib.ListN.{length, take, set}
 use Rattle.cluster.proofs.Covers.{latest-full-new, latest-full-part, latest-full-zero}
 use Rattle.cluster.proofs.Kept.{kept-full}
 use Rattle.cluster.specs.Clusters.{all, cluster, cover, cover-by, exchanges, latest-full, outcome}
-use Rattle.cluster.specs.Kept.{kept}
 use Rattle.cluster.specs.Partitions.{clusters}
 use Rattle.cluster.specs.Rules.{Rule}
 use Rattle.cluster.specs.declared.outcome.Outcome.{Outcome}
 use Rattle.cluster.specs.declared.outcome.Outcome.the-variants.{Plain, Merged, Across}
 use Rattle.join.specs.declared.vector.Vector.{Vector}
 use Rattle.keeper.specs.Answers.{ask-full}
-use Rattle.keeper.specs.Piles.{Pile, Stamp, held-count}
+use Rattle.keeper.specs.Piles.{Pile}
 use Rattle.keeper.specs.declared.fault.KeeperFault.{KeeperFault}
 use Rattle.keeper.specs.declared.fault.KeeperFault.the-variants.{NotHeld}
 use Rattle.order.proofs.Held.{passed, length-most}
@@ -27,12 +26,10 @@ use Rattle.order.proofs.PostSets.{below-zero, below-with, below-without, length
 use Rattle.order.proofs.Vectors.{when, unless}
 use Rattle.order.specs.History.{History, count, ground}
 use Rattle.order.specs.Posts.{has, below, members, size}
-use Rattle.order.specs.Reads.{recordOf}
 use Rattle.order.specs.Records.{Bytes, kind, kind-named, number, partner-post, post}
 use Rattle.order.specs.declared.event.Event.{Event}
 use Rattle.order.specs.declared.event.Kind.{Kind}
 use Rattle.order.specs.declared.event.Kind.the-variants.{Local, Send, Receive}
-use Rattle.order.specs.declared.«record».Record.{Record}
 use Rattle.std.proofs.shelf.Lists.{length-set, length-push, map-push, take-more-set}
 use Rattle.std.proofs.shelf.Tests.{and-left, cases-eq, cond-true, cond-false, eq-eqb, ne-eqb, le-ltb, lt-ltb}
 use Rattle.std.specs.declared.result.Result.{Result}
@@ -76,13 +73,11 @@ module _ (v : Vector) (cover post : ℕ) (entries : List ℕ) (len : ℕ) (i : C
             ∙ sym (ap (map (at v)) more ∙ map-push (at v) (below post cover) post);
       }
 
--- ---- plain facts
+-- the entries of a vector are those that are known of it
+pub entries-known : (v : Vector) (f : ℕ → ℕ) → ((q : ℕ) → at v q ≡ f q) → {c d : ℕ} → c ≡ d → map (at v) (members c) ≡ map f (members d)
+entries-known v f e same = let known : at v ≡ f = fun-ext e in λ i. map (known i) (members (same i))
 
--- whether a kind is a receive
-abbrev receiving : Kind → Bool
-receiving Local = false
-receiving Send = false
-receiving Receive = true
+-- ---- plain facts
 
 -- a kind's code is that of a receive exactly if the kind is one
 pub code-receive : (code : ℕ) → code ≤ 2 → kind-named code ≡ Receive → code ≡ 2

@@ -6,9 +6,10 @@ use mathlib.Core.Path.{_≡_, refl, sym, ap, _∙_, subst, subst₂}
 use Prim.Native.Nat.{ℕ, suc, _+_, _≤_, _<_}
 use native.Mathlib.Omega.{arith}
 use lib.Dec.{eqb, leb}
+use lib.ListN.{getD}
 use Rattle.cluster.specs.Clusters.{cover, outcome}
 use Rattle.cluster.specs.Rules.{Rule}
-use Rattle.cluster.specs.Traffic.{Tells}
+use Rattle.cluster.specs.Counts.{Tells}
 use Rattle.keeper.specs.Piles.{Pile, price}
 use Rattle.keeper.specs.declared.fault.KeeperFault.{KeeperFault}
 use Rattle.keeper.specs.declared.fault.KeeperFault.the-variants.{NoSpace}
@@ -17,18 +18,40 @@ use Rattle.order.proofs.Vectors.{when, unless}
 use Rattle.order.specs.History.{History, Valid, count, ground}
 use Rattle.order.specs.History.Valid.{taken}
 use Rattle.order.specs.Posts.{size}
+use Rattle.order.specs.Reads.{recordOf}
 use Rattle.order.specs.Records.{Bytes, number, post}
+use Rattle.order.specs.declared.«record».Record.{Record}
 use Rattle.std.proofs.shelf.Tests.{cases-bool, cases-eq, cond-true, cond-false, eq-eqb}
 use Rattle.std.specs.declared.result.Result.{Result}
 use Rattle.std.specs.declared.result.Result.the-variants.{Ok, Err}
 use Rattle.station.proofs.Reading.{stands-holds}
 use Rattle.station.specs.Entries.{Groups, Holds, Stamped, room-for}
 use Rattle.station.specs.Stands.{Stands, Took, Unchanged}
-use Rattle.station.specs.Takes.{takes, after-take, Moves}
+use Rattle.station.specs.Takes.{takes, after-take, judged, refusal, verdict, Moves}
 use Rattle.station.specs.declared.core.Station.{Station}
 use Rattle.station.specs.declared.faults.TakeFault.{TakeFault}
 use Rattle.station.specs.declared.faults.TakeFault.the-variants.{Keeper}
 use Rattle.station.specs.declared.faults.Taken.{Taken}
+
+-- What is refused of a record before its stamp is drafted is refused of the take.
+pub takes-judged : (P : Rule) (n : ℕ) (h : History) (b : Bytes) (space : ℕ) (f : TakeFault) → Err f ≡ judged n h b → Err f ≡ takes P n h space b
+unfolding verdict
+takes-judged P n h b space f e = elim (cases-bool (eqb (ground n h b) 0)) [
+    inl t ↦ let passes = e ∙ when _ _ _ t in let z : _≡_ {A = ℕ} 0 1 = cc in absurd (omega arith)
+  | inr u ↦ let refused : Err f ≡ Err (refusal (ground n h b)) = e ∙ unless _ _ _ u in let same : f ≡ refusal (ground n h b) = cc in ap Err same ∙ sym (unless _ _ _ u)
+  ]
+
+pub judged-record : (n : ℕ) (h : History) (b : Bytes) (r : Record) → Ok r ≡ judged n h b → r ≡ recordOf b
+unfolding verdict
+judged-record n h b r e = elim (cases-bool (eqb (ground n h b) 0)) [
+    inl t ↦ let passes = e ∙ when _ _ _ t in cc
+  | inr u ↦ let refused = e ∙ unless _ _ _ u in let z : _≡_ {A = ℕ} 0 1 = cc in absurd (omega arith)
+  ]
+
+-- a two-byte number
+pub number-small : (b : Bytes) → getD b 2 0 < 256 → getD b 3 0 < 256 → number b ≤ 65535
+unfolding number
+number-small b x y = omega arith
 
 -- What a take answers once no ground on form, number or partner refuses.
 
@@ -122,3 +145,13 @@ module _ {P K : Type 0} (rule : P → Rule) (sound : K → Type 0) (meaning : K 
       same-posts = stamped .same-posts;
       refused = tt;
     }
+
+  pub took-judged : (s : Station P K) (h : History) (b : Bytes) → Stands rule sound meaning s h → (f : TakeFault) → Err f ≡ judged (meaning (s .keeper) .posts) h b → Took rule sound meaning s s h b (Err f)
+  took-judged s h b st f e = record {
+    answer = takes-judged (rule (s .policy)) (meaning (s .keeper) .posts) h b (meaning (s .keeper) .space (post b)) f e;
+    stands = st;
+    moves = refl;
+    same-policy = refl;
+    same-posts = refl;
+    refused = record { same-pile = refl; same-partition = refl; same-exchanges = refl };
+  }

@@ -2,8 +2,8 @@
 use mathlib.Core.Bool.{Bool, true, false, cond, _&&_}
 use mathlib.Core.List.{List, [], _∷_}
 use mathlib.Core.Logic.{_⊎_, inl, inr}
-use mathlib.Core.Path.{_≡_, refl, sym, ap, _∙_, subst}
-use Prim.Native.Nat.{ℕ, zero, suc, _+_, _≤_, _<_, max}
+use mathlib.Core.Path.{_≡_, refl, sym, ap, ap₂, _∙_, subst}
+use Prim.Native.Nat.{ℕ, zero, suc, _+_, _-_, _≤_, _<_, max}
 use native.Mathlib.Omega.{arith}
 use lib.Dec.{eqb, ltb, leb}
 use lib.ListN.{length, getD, set, replicate}
@@ -16,19 +16,24 @@ use Rattle.keeper.specs.Answers.{ask-stamp, ask-cover, ask-full, ask-entry}
 use Rattle.keeper.specs.Piles.{Pile, Stamp, entry-of}
 use Rattle.keeper.specs.declared.fault.KeeperFault.{KeeperFault}
 use Rattle.keeper.specs.declared.fault.KeeperFault.the-variants.{NotCovered, NotHeld, UnknownPost}
+use Rattle.order.proofs.Forms.{code-named}
 use Rattle.order.proofs.Held.{passed, count-none, count-other}
 use Rattle.order.proofs.Vectors.{vec-none, vec-self, vec-count, vec-closed, vec-own, vec-other, brought, brought-by, brought-none}
 use Rattle.order.specs.History.{History, Valid, count, ground}
 use Rattle.order.specs.History.Valid.{start, taken}
 use Rattle.order.specs.Posts.{has}
-use Rattle.order.specs.Records.{Bytes, post, kind, number, partner-post, partner-number}
+use Rattle.order.specs.Reads.{recordOf}
+use Rattle.order.specs.Records.{Bytes, post, kind, number, partner-post, partner-number, receives, code}
 use Rattle.order.specs.Vectors.{vec}
 use Rattle.order.specs.declared.event.Event.{Event}
+use Rattle.order.specs.declared.event.Kind.the-variants.{Receive}
+use Rattle.order.specs.declared.«record».Record.{Record}
 use Rattle.std.proofs.shelf.Lists.{getD-set-same, getD-set-other}
-use Rattle.std.proofs.shelf.Tests.{and-from, and-left, and-right, cond-true, cond-false, cases-bool, cases-eq, cases-lt, lt-ltb, le-ltb, both-ways}
+use Rattle.std.proofs.shelf.Tests.{and-from, and-left, and-right, cond-true, cond-false, cases-bool, cases-eq, cases-lt, lt-ltb, le-ltb, eq-eqb, ne-eqb, both-ways}
 use Rattle.std.specs.declared.result.Result.{Result}
 use Rattle.std.specs.declared.result.Result.the-variants.{Ok, Err}
 use Rattle.station.proofs.Reading.{Known, asked}
+use Rattle.station.specs.Drafts.{known-before}
 use Rattle.station.specs.Stands.{Stands}
 use Rattle.station.specs.declared.core.Station.{Station}
 
@@ -149,16 +154,49 @@ module _ (R : Rule) {n : ℕ} {h : History} (v : Valid n h) (p k : ℕ) (held : 
 
 -- ---- the next event
 
--- all that its post's preceding event and its send know, and itself
-pub next-entry : {n : ℕ} {h : History} (b : Bytes) → n ≤ 64 → ground n h b ≡ 0 → (xs : List ℕ) → length xs ≡ 64
-    → ((q : ℕ) → getD xs q 0 ≡ max (vec h (post b) (count h (post b)) q) (brought b h q))
+-- what is asked of an event is what the history has of event k of post p
+pub record Same (n : ℕ) (h : History) (e : Event) (p k : ℕ) : Type 0 where
+  pub inside : e .post < n
+  pub most : e .number ≤ count h (e .post)
+  pub entry : (q : ℕ) → vec h (e .post) (e .number) q ≡ vec h p k q
+
+same : (n : ℕ) (h : History) (e : Event) (p k : ℕ) → e .post ≡ p → e .number ≡ k → p < n → k ≤ count h p → Same n h e p k
+same n h e p k a b inside most = record { inside = omega arith; most = omega (arith, ap (count h) a); entry = λ q. ap₂ (λ (x y : ℕ). vec h x y q) a b }
+
+pub same-previous : (n : ℕ) (h : History) (b : Bytes) (r : Record) (k : ℕ) → ground n h b ≡ 0 → r ≡ recordOf b → k ≡ r .event .number - 1
+    → Same n h (record { post = r .event .post; number = k }) (post b) (count h (post b))
+same-previous n h b r k g is less =
+    let next = passed n h b g .next in
+    let number-is = ap (λ (r : Record). r .event .number) is in
+    same n h (record { post = r .event .post; number = k }) (post b) (count h (post b)) (ap (λ (r : Record). r .event .post) is) (omega arith) (passed n h b g .inside) (omega arith)
+
+-- the code of a record's kind
+pub receive-code : (n : ℕ) (h : History) (b : Bytes) (r : Record) → ground n h b ≡ 0 → r ≡ recordOf b → r .kind ≡ Receive → kind b ≡ 2
+receive-code n h b r g is receive = sym (code-named (kind b) (passed n h b g .known)) ∙ ap code (sym (ap (λ (r : Record). r .kind) is) ∙ receive)
+
+pub same-partner : (n : ℕ) (h : History) (b : Bytes) (r : Record) → ground n h b ≡ 0 → r ≡ recordOf b → kind b ≡ 2 → Same n h (r .partner) (partner-post b) (partner-number b)
+same-partner n h b r g is two =
+    let pair = passed n h b g .pair two in
+    same n h (r .partner) (partner-post b) (partner-number b) (ap (λ (r : Record). r .partner .post) is) (ap (λ (r : Record). r .partner .number) is) (pair .inside) (pair .most)
+
+brought-is : (b : Bytes) (h : History) (q : ℕ) → cond (receives b) (vec h (partner-post b) (partner-number b) q) 0 ≡ brought b h q
+brought-is b h q = elim (cases-eq (kind b) 2) [
+  | inl two ↦ cond-true _ _ _ (eq-eqb (kind b) 2 two) ∙ sym (brought-by b h q two)
+  | inr ne ↦ cond-false _ _ _ (ne-eqb (kind b) 2 ne) ∙ sym (brought-none b h q ne)
+]
+
+-- what it knows before, and itself
+pub next-entry : (n : ℕ) (h : History) (b : Bytes) → n ≤ 64 → ground n h b ≡ 0 → (xs : List ℕ) → length xs ≡ 64 → ((q : ℕ) → getD xs q 0 ≡ known-before h b q)
     → (q : ℕ) → getD (set xs (post b) (number b)) q 0 ≡ vec (b ∷ h) (post b) (number b) q
-next-entry {n} {h} b few g xs size known q =
+next-entry n h b few g xs size known q =
     let next = passed n h b g .next in
     elim (cases-eq (post b) q) [
       | inl e ↦ subst (λ (x : ℕ). getD (set xs (post b) (number b)) x 0 ≡ vec (b ∷ h) (post b) (number b) x) e
           (getD-set-same xs (post b) (number b) 0 (omega (arith, passed n h b g .inside)) ∙ next ∙ sym (ap (λ (k : ℕ). vec (b ∷ h) (post b) k (post b)) next ∙ vec-own b h))
-      | inr ne ↦ getD-set-other xs (post b) q (number b) 0 (λ e. ne (sym e)) ∙ known q ∙ sym (ap (λ (k : ℕ). vec (b ∷ h) (post b) k q) next ∙ vec-other b h q ne)
+      | inr ne ↦
+          getD-set-other xs (post b) q (number b) 0 (λ e. ne (sym e)) ∙ known q
+          ∙ ap (max (vec h (post b) (count h (post b)) q)) (brought-is b h q)
+          ∙ sym (ap (λ (k : ℕ). vec (b ∷ h) (post b) k q) next ∙ vec-other b h q ne)
     ]
 
 -- ---- the latest full event

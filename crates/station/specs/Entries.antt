@@ -8,7 +8,7 @@ use Rattle.cluster.specs.Clusters.{cluster, cover}
 use Rattle.cluster.specs.Kept.{kept}
 use Rattle.cluster.specs.Partitions.{clusters}
 use Rattle.cluster.specs.Rules.{Rule}
-use Rattle.cluster.specs.Traffic.{Tells}
+use Rattle.cluster.specs.Counts.{Tells}
 use Rattle.cluster.specs.declared.exchanges.Exchanges.{Exchanges}
 use Rattle.cluster.specs.declared.partition.Partition.{Partition}
 use Rattle.keeper.specs.Piles.{Pile, held-count, price, stamp-of}

@@ -6,7 +6,7 @@ use Rattle.cluster.specs.Clusters.{cluster}
 use Rattle.cluster.specs.Kept.{kept}
 use Rattle.cluster.specs.Partitions.{clusters}
 use Rattle.cluster.specs.Rules.{Rule}
-use Rattle.cluster.specs.Traffic.{Tells}
+use Rattle.cluster.specs.Counts.{Tells}
 use Rattle.keeper.specs.Piles.{Pile, held-count, stamp-of}
 use Rattle.order.specs.History.{History, Valid, count}
 use Rattle.order.specs.Records.{Bytes, post}

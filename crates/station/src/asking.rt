@@ -1,9 +1,8 @@
 // Questions about single events and posts.
-ghost use Prim.Native.Nat.{_≤_, _<_};
+ghost use Prim.Native.Nat.{_<_};
 ghost use mathlib.Core.Bool.{true};
 ghost use mathlib.Core.Path.{_≡_};
-ghost use Rattle.cluster.specs.Kept.{kept, told};
-ghost use Rattle.order.specs.History.{History, count as count-of};
+ghost use Rattle.order.specs.History.{History};
 ghost use Rattle.order.specs.Vectors.{vec};
 ghost use Rattle.station.specs.Asks.{clusters-at, knows, precedes, reaches, relates};
 ghost use Rattle.station.specs.Stands.{Stands};
@@ -15,52 +14,17 @@ use super::core::Station;
 use cluster::policy::Policy;
 use keeper::Keeper;
 use order::event::Event;
-use order::posts::MAX_POSTS;
 use order::posts::PostSet;
 
 impl<P: Policy, K: Keeper> Station<P, K> {
-    // What the latest full event of post `from` up to its event `number` says of a post.
-    fn told_entry(&self, from: u8, number: u16, post: u8) -> u16
-        ensures { λ r. ⌜ ((h : History) → Stands rule sound meaning (now (self .entry)) h → from < meaning (now (self .entry) .keeper) .posts → post < meaning (now (self .entry) .keeper) .posts → number ≤ count-of h from → r ≡ told (kept (rule (now (self .entry) .policy)) (meaning (now (self .entry) .keeper) .posts) h) from number post) ⌝ }
-    {
-        match self.keeper.full(Event { post: from, number }) {
-            Ok(full) => match self.keeper.entry(
-                Event {
-                    post: from,
-                    number: full,
-                },
-                post,
-            ) {
-                Ok(entry) => entry,
-                Err(_) => 0,
-            },
-            Err(_) => 0,
-        }
-    }
-
-    // A held event's full entry for a post: the kept one, or the largest that the latest full events of the covered
-    // posts tell.
+    // A held event's full entry for a post: the kept one, else one that comes back with the whole vector.
     pub fn full_entry(&self, event: Event, post: u8) -> u16
         ensures { λ r. ⌜ ((h : History) → Stands rule sound meaning (now (self .entry)) h → knows (meaning (now (self .entry) .keeper) .posts) h event ≡ true → post < meaning (now (self .entry) .keeper) .posts → r ≡ vec h (event .post) (event .number) post) ⌝ }
     {
-        if let Ok(entry) = self.keeper.entry(event, post) {
-            return entry;
+        match self.keeper.entry(event, post) {
+            Ok(entry) => entry,
+            Err(_) => self.vector(event).entry(post),
         }
-        let cover = match self.keeper.cover(event) {
-            Ok(cover) => cover,
-            Err(_) => PostSet::empty(),
-        };
-        let mut most = 0;
-        for from in 0..MAX_POSTS {
-            if cover.contains(from) {
-                let number = match self.keeper.entry(event, from) {
-                    Ok(number) => number,
-                    Err(_) => 0,
-                };
-                most = most.max(self.told_entry(from, number, post));
-            }
-        }
-        most
     }
 
     // Whether a held event precedes another.

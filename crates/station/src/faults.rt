@@ -1,5 +1,6 @@
 // Why a call of a station is refused.
 ghost use mathlib.Core.Path.{_≡_};
+ghost use Rattle.station.specs.Faults.{take-ground, feed-ground, feed-place};
 ghost use Rattle.station.specs.declared.faults.TakeFault.the-variants.{Record as IllFormed, Keeper as NoRoom};
 use cluster::outcome::Outcome;
 use cluster::outcome::OutcomeDebug;
@@ -42,6 +43,45 @@ pub enum FeedFault {
     Ragged,
     // The record at this byte place is refused.
     Take { place: usize, fault: TakeFault },
+}
+
+impl TakeFault {
+    // The number of the ground.
+    pub fn ground(self) -> u8
+        ensures { λ r. ⌜ r ≡ take-ground self ⌝ }
+    {
+        match self {
+            TakeFault::Barred => 1,
+            TakeFault::Record(fault) => fault.ground(),
+            TakeFault::OutOfTurn => 8,
+            TakeFault::PartnerNotHeld => 9,
+            TakeFault::PartnerNotSend => 10,
+            TakeFault::AlreadyReceived => 11,
+            TakeFault::Keeper(_) => 12,
+        }
+    }
+}
+
+impl FeedFault {
+    // The number of the ground.
+    pub fn ground(self) -> u8
+        ensures { λ r. ⌜ r ≡ feed-ground self ⌝ }
+    {
+        match self {
+            FeedFault::Ragged => 2,
+            FeedFault::Take { place: _, fault } => fault.ground(),
+        }
+    }
+
+    // The byte place of the refused record; 0 for grounds 1 and 2.
+    pub fn place(self) -> usize
+        ensures { λ r. ⌜ r ≡ feed-place self ⌝ }
+    {
+        match self {
+            FeedFault::Ragged => 0,
+            FeedFault::Take { place, fault: _ } => place,
+        }
+    }
 }
 
 pub impl From<RecordFault> for TakeFault as RecordIntoTake {

@@ -2,11 +2,15 @@
 ghost use Prim.Native.Nat.{_%_};
 ghost use mathlib.Core.Bool.{true};
 ghost use mathlib.Core.Path.{_≡_};
-ghost use lib.ListN.{length, take, drop};
+ghost use lib.ListN.{length};
 ghost use Rattle.order.specs.History.{History};
-ghost use Rattle.station.specs.Stands.{Fed, Stands};
+ghost use Rattle.station.specs.Feeds.{placed};
+ghost use Rattle.station.specs.Stands.{Fed, Stands, Took};
 ghost use Rattle.station.specs.declared.faults.FeedFault.the-variants.{Ragged, Take};
 ghost use Rattle.station.specs.declared.faults.TakeFault.the-variants.{Barred};
+ghost use Rattle.station.specs.declared.faults.TakeFault.{TakeFault};
+ghost use Rattle.station.specs.declared.faults.Taken.{Taken};
+ghost use Rattle.std.specs.declared.result.Result.{Result};
 ghost use Rattle.std.specs.declared.result.Result.the-variants.{Err};
 use super::core::Station;
 use super::faults::FeedFault;
@@ -41,8 +45,10 @@ impl<P: Policy + Drop, K: Keeper + Drop> Station<P, K> {
     }
 
     // Takes the record at a byte place of a feed.
-    fn take_at(&mut self, record: &[u8], place: usize) -> Result<Taken, FeedFault> {
-        match self.take(record) {
+    fn take_at(&mut self, bytes: &[u8], place: usize) -> Result<Taken, FeedFault>
+        ensures { λ r. ⌜ ((h : History) → Stands rule sound meaning (now (self .entry)) h → ((t : Result Taken TakeFault) × (r ≡ placed place t) × Took rule sound meaning (now (self .entry)) (now (self .exit)) h (now (bytes .entry)) t)) ⌝ }
+    {
+        match self.take(bytes) {
             Ok(taken) => Ok(taken),
             Err(fault) => Err(FeedFault::Take { place, fault }),
         }

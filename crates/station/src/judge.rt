@@ -19,9 +19,6 @@ impl<P: Policy, K: Keeper> Station<P, K> {
     pub fn judge(&self, bytes: &[u8]) -> Result<Record, TakeFault>
         ensures { λ r. ⌜ ((h : History) → Stands rule sound meaning (now (self .entry)) h → r ≡ judged (meaning (now (self .entry) .keeper) .posts) h (now (bytes .entry))) ⌝ }
     {
-        if self.barred {
-            return Err(TakeFault::Barred);
-        }
         let record = Record::read(bytes, self.keeper.posts())?;
         if record.event.number as u32 != self.count(record.event.post) as u32 + 1 {
             return Err(TakeFault::OutOfTurn);

@@ -7,7 +7,6 @@ mod entering;
 pub mod faults;
 mod feeding;
 mod judge;
-mod lists;
 mod opening;
 mod readers;
 mod stamping;

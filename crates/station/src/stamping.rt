@@ -56,6 +56,7 @@ impl<P: Policy, K: Keeper> Station<P, K> {
         let own = self.partition.cluster(record.event.post);
         let other = self.partition.cluster(record.partner.post);
         let same = own.contains(record.partner.post);
+        let all = PostSet::first(self.partition.posts());
         let (outcome, cover) = match (record.kind, same) {
             (Kind::Receive, false)
                 if self.policy.ask(
@@ -63,7 +64,7 @@ impl<P: Policy, K: Keeper> Station<P, K> {
                     size_of(other),
                     self.exchanges.between(own, other),
                 ) => (Outcome::Merged, own.union(other)),
-            (Kind::Receive, false) => (Outcome::Across, PostSet::first(self.partition.posts())),
+            (Kind::Receive, false) => (Outcome::Across, all),
             _ => (Outcome::Plain, own),
         };
         Ruling { outcome, cover }

@@ -34,6 +34,9 @@ impl<P: Policy + Drop, K: Keeper + Drop> Station<P, K> {
         ensures barred { λ r. ⌜ (now (self .entry) .barred ≡ true → (r ≡ Err Barred) × (now (self .exit) ≡ now (self .entry))) ⌝ }
         ensures took { λ r. ⌜ ((h : History) → Stands rule sound meaning (now (self .entry)) h → Took rule sound meaning (now (self .entry)) (now (self .exit)) h (now (bytes .entry)) r) ⌝ }
     {
+        if self.barred {
+            return Err(TakeFault::Barred);
+        }
         let record = self.judge(bytes)?;
         let draft = self.draft(record);
         self.enter(draft)

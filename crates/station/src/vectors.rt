@@ -11,7 +11,7 @@ ghost use Rattle.order.specs.Reads.{recordOf};
 ghost use Rattle.order.specs.Records.{Bytes, number as number-of, post as post-of};
 ghost use Rattle.order.specs.Vectors.{vec};
 ghost use Rattle.station.specs.Asks.{knows};
-ghost use Rattle.station.specs.Drafts.{at};
+ghost use Rattle.station.specs.Drafts.{at, known-before};
 ghost use Rattle.station.specs.Stands.{Stands};
 use super::core::Station;
 use cluster::policy::Policy;
@@ -100,22 +100,29 @@ impl<P: Policy, K: Keeper> Station<P, K> {
         }
     }
 
-    // The full vector of the event that a record reports next: all that its post's preceding event and its send
-    // know, and itself.
+    // All that the event that a record reports next knows, but for itself.
+    fn known_before(&self, record: Record) -> Vector
+        ensures len { λ r. ⌜ length (r .entries) ≡ 64 ⌝ }
+        ensures known { λ r. ⌜ ((h : History) (b : Bytes) → Stands rule sound meaning (now (self .entry)) h → ground (meaning (now (self .entry) .keeper) .posts) h b ≡ 0 → «record» ≡ recordOf b → (q : ℕ) → at r q ≡ known-before h b q) ⌝ }
+    {
+        let previous = self.vector(Event {
+            post: record.event.post,
+            number: record.event.number.saturating_sub(1),
+        });
+        match record.kind {
+            Kind::Receive => previous.join(self.vector(record.partner)),
+            _ => previous,
+        }
+    }
+
+    // The full vector of the event that a record reports next.
     pub fn next_vector(&self, record: Record) -> Vector
         ensures len { λ r. ⌜ length (r .entries) ≡ 64 ⌝ }
         ensures full { λ r. ⌜ ((h : History) (b : Bytes) → Stands rule sound meaning (now (self .entry)) h → ground (meaning (now (self .entry) .keeper) .posts) h b ≡ 0 → «record» ≡ recordOf b → (q : ℕ) → at r q ≡ vec (b ∷ h) (post-of b) (number-of b) q) ⌝ }
     {
-        let number = record.event.number;
-        let mut vector = self.vector(Event {
-            post: record.event.post,
-            number: number.saturating_sub(1),
-        });
-        if let Kind::Receive = record.kind {
-            vector = vector.join(self.vector(record.partner));
-        }
+        let mut vector = self.known_before(record);
         if record.event.post < MAX_POSTS {
-            vector.entries[record.event.post as usize] = number;
+            vector.entries[record.event.post as usize] = record.event.number;
         }
         vector
     }

@@ -20,7 +20,7 @@ pub returns-then-not-contains : need.returns-then-not-contains
 returns-then-not-contains c =
     λ ok.
     let s = c .args .self .now in
-    uncovered (cells-of s) (c .in-Continue-at .at) (stamp-of (pile-of s) (c .args .event .post) (c .args .event .number)) (c .args .post) (c .from-bits-cover .result .bits) (c .in-Continue-at .ensures tt .lies ok) (c .from-bits-cover .ensures ∙ c .word .ensures) (sym (c .if-not-contains .ensures tt))
+    uncovered (cells-of s) (c .in-Continue-at .at) (stamp-of (pile-of s) (c .args .event .post) (c .args .event .number)) (c .args .post) (c .from-bits-cover .result .bits) (c .in-Continue-at .ensures tt .lies ok) (c .from-bits-cover .ensures ∙ c .word .ensures) (sym (c .if-not-contains .ensures tt .value))
     ∙ held-any (s .posts) (held-count (pile-of s) (c .args .event .post)) (c .args .event .post) (c .args .event .number) (cell-of s (c .args .event .post) (c .args .event .number)) (c .in-Continue-at .at) _ (c .in-Continue-at .ensures tt .answer ok)
 
 pub returns : need.returns
@@ -28,5 +28,5 @@ returns c =
     λ ok.
     let s = c .args .self .now in
     ap Ok (c .cell .ensures ∙ ap (λ (n : ℕ). cells-of s (c .in-Continue-at .at + 6 + n)) (c .rank .ensures))
-    ∙ covered (cells-of s) (c .in-Continue-at .at) (stamp-of (pile-of s) (c .args .event .post) (c .args .event .number)) (c .args .post) (c .from-bits-cover .result .bits) (c .in-Continue-at .ensures tt .lies ok) (c .from-bits-cover .ensures ∙ c .word .ensures) (omega (arith, c .word .ok)) (sym (c .if-not-contains .ensures tt))
+    ∙ covered (cells-of s) (c .in-Continue-at .at) (stamp-of (pile-of s) (c .args .event .post) (c .args .event .number)) (c .args .post) (c .from-bits-cover .result .bits) (c .in-Continue-at .ensures tt .lies ok) (c .from-bits-cover .ensures ∙ c .word .ensures) (omega (arith, c .word .ok)) (sym (c .if-not-contains .ensures tt .value))
     ∙ held-any (s .posts) (held-count (pile-of s) (c .args .event .post)) (c .args .event .post) (c .args .event .number) (cell-of s (c .args .event .post) (c .args .event .number)) (c .in-Continue-at .at) _ (c .in-Continue-at .ensures tt .answer ok)

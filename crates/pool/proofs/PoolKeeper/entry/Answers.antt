@@ -14,7 +14,7 @@ returns-in-Break-place c s =
 pub returns-then-not-contains : need.returns-then-not-contains
 returns-then-not-contains c s =
     not-covered (c .args .self .now .cells .now) (c .in-Continue-place .place) (c .args .post)
-    (ap (λ (b : ℕ). has b (c .args .post)) (sym (c .cover-at-cover .ensures .is)) ∙ sym (c .if-not-contains .ensures tt))
+    (ap (λ (b : ℕ). has b (c .args .post)) (sym (c .cover-at-cover .ensures .is)) ∙ sym (c .if-not-contains .ensures tt .value))
     ∙ answered (c .args .self .now .index) (c .args .self .now .cells .now) (c .args .event) (c .in-Continue-place .place) (entry-field (c .args .post)) s (c .in-Continue-place .ensures tt s)
 
 pub returns : need.returns
@@ -23,5 +23,5 @@ returns c s =
     ap (λ (n : ℕ). getD (c .args .self .now .cells .now) (c .in-Continue-place .place + 8 + n) 0) (c .rank .ensures ∙ ap (λ (b : ℕ). length (below (c .args .post) b)) (c .cover-at-cover .ensures .is)) in
     ap Ok (c .cell .ensures ∙ at)
     ∙ covered (c .args .self .now .cells .now) (c .in-Continue-place .place) (c .args .post) (subst (λ (b : ℕ). b < 2 ^ 64) (c .cover-at-cover .ensures .is) (c .cover-at-cover .ensures .fits))
-    (ap (λ (b : ℕ). has b (c .args .post)) (sym (c .cover-at-cover .ensures .is)) ∙ sym (c .if-not-contains .ensures tt))
+    (ap (λ (b : ℕ). has b (c .args .post)) (sym (c .cover-at-cover .ensures .is)) ∙ sym (c .if-not-contains .ensures tt .value))
     ∙ answered (c .args .self .now .index) (c .args .self .now .cells .now) (c .args .event) (c .in-Continue-place .place) (entry-field (c .args .post)) s (c .in-Continue-place .ensures tt s)
