@@ -3,4 +3,5 @@ pub mod comparing;
 pub mod playing;
 pub mod replaying;
 pub mod shift;
+pub mod supplied;
 pub mod turns;
