@@ -1,4 +1,5 @@
 pub mod Entered
+pub mod Farthest
 pub mod FeedSteps
 pub mod Held
 pub mod Judged

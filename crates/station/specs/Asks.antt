@@ -1,12 +1,14 @@
 -- What the questions answer, by the history.
 use mathlib.Core.Bool.{Bool, true, false, cond, not, _&&_}
 use mathlib.Core.List.{List, [], _∷_, map}
+use mathlib.Core.Path.{_≡_}
 use Prim.Native.Nat.{ℕ, zero, suc, _+_, _^_}
 use lib.Dec.{eqb, leb, ltb}
 use lib.ListN.{length}
 use Rattle.cluster.specs.Clusters.{cluster}
 use Rattle.cluster.specs.Kept.{largest}
 use Rattle.cluster.specs.Rules.{Rule}
+use Rattle.join.specs.Folds.{Same-values}
 use Rattle.order.specs.History.{History, held}
 use Rattle.order.specs.Vectors.{vec}
 use Rattle.order.specs.declared.event.Event.{Event}
@@ -83,3 +85,13 @@ hears n h es = of-list n h es (Ok (record { bits = gathered n (λ q. ltb 0 (fart
 
 abbrev pub clusters-at : Rule → ℕ → History → ℕ → Result PostSet AskFault
 clusters-at P n h p = cond (ltb p n) (Ok (record { bits = cluster P h p })) (Err UnknownPost)
+
+-- Lists of the same events, in whatever order and however often each is named, have one answer.
+pub record Same-answers (n : ℕ) (h : History) (es fs : List Event) : Type 0 where
+  pub reach : (q : ℕ) → farthest h es q ≡ farthest h fs q
+  pub horizon : (places : ℕ) → horizons n h es places ≡ Ok tt → horizons n h fs places ≡ Ok tt
+  pub slice : (was : List ℕ) → horizon-slice n h es (Ok tt) was ≡ horizon-slice n h fs (Ok tt) was
+  pub heard : (s : PostSet) → hears n h es ≡ Ok s → hears n h fs ≡ Ok s
+
+abbrev pub Order-free-answers : Type 0
+Order-free-answers = (n : ℕ) (h : History) (es fs : List Event) → Same-values es fs → Same-answers n h es fs

@@ -7,6 +7,7 @@ mod entering;
 pub mod faults;
 mod feeding;
 mod judge;
+pub mod lists;
 mod opening;
 mod readers;
 mod stamping;
