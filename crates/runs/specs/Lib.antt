@@ -1,4 +1,6 @@
 pub mod Calls
 pub mod Comparison
+pub mod Played
 pub mod Runs
 pub mod Shift
+pub mod Views
