@@ -6,4 +6,4 @@ returns g c =
     let a = c .open-keeper-a .ensures in
     let b = c .open-keeper-b .ensures in
     let each = c .compare .ensures .each in
-    fresh-compared _ _ _ _ _ _ _ _ _ _ _ _ (a .meaning) (b .meaning) (each .0 (a .sound)) (each .1 (b .sound))
+    record { count = c .compare .ensures .count; compared = fresh-compared _ _ _ _ _ _ _ _ _ _ _ _ (a .meaning) (b .meaning) (each .0 (a .sound)) (each .1 (b .sound)) }
