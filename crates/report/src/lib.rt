@@ -3,7 +3,9 @@ ghost use Prim.Native.Nat.{_≤_};
 ghost use lib.ListN.{length};
 ghost use mathlib.Core.Path.{_≡_};
 ghost use Rattle.order.specs.Records.{number as number-of, post as post-of};
+ghost use Rattle.report.specs.Lines.{printed, word};
 ghost use Rattle.report.specs.Reports.{Reported};
+ghost use Rattle.std.specs.Of.String.{string-bytes};
 ghost use Rattle.std.specs.Vec.{made};
 use cluster::outcome::Outcome;
 use cluster::policy::Policy;
@@ -15,7 +17,6 @@ use station::faults::FeedFault;
 use station::faults::Taken;
 use std::alloc::AllocError;
 use std::alloc::Global;
-use std::fmt;
 
 pub mod input;
 pub mod program;
@@ -29,18 +30,25 @@ pub struct Line {
     pub entries: u8,
 }
 
-pub impl fmt::Display for Line as LineDisplay {
-    fn fmt<W: fmt::Write>(&self, f: &mut fmt::Formatter<W>) -> fmt::Result {
-        let post = self.post;
-        let number = self.number;
-        let entries = self.entries;
-        let word = match self.outcome {
-            Outcome::Plain => "plain",
-            Outcome::Merged => "merged",
-            Outcome::Across => "across",
-        };
-        write!(f, "{post} {number} {word} {entries}")
+fn word_of(outcome: Outcome) -> &'static str
+    ensures { λ r. ⌜ now r ≡ word outcome ⌝ }
+{
+    match outcome {
+        Outcome::Plain => "plain",
+        Outcome::Merged => "merged",
+        Outcome::Across => "across",
     }
+}
+
+// What is printed of an event.
+pub fn text(heap: Global, line: Line) -> Result<String, AllocError>
+    ensures { λ r. ⌜ made r (λ t. string-bytes t ≡ printed line) ⌝ }
+{
+    let post = line.post;
+    let number = line.number;
+    let word = word_of(line.outcome);
+    let entries = line.entries;
+    format!(heap, "{post} {number} {word} {entries}")
 }
 
 // The line of a record of eight bytes that was taken.

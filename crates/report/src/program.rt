@@ -1,6 +1,6 @@
 // The shift program: four posts, first contact with limit 2, a pool of 4,096 cells.
-use super::LineDisplay;
 use super::input::fill;
+use super::text;
 use super::work;
 use cluster::policy::FirstContact;
 use cluster::policy::FirstContactPolicy;
@@ -25,7 +25,8 @@ pub fn run(rt: &LibcRuntime) -> Result<(), AnyError> {
     let mut station = Station::open(FirstContact::new(LIMIT), pool::open(POSTS, &mut cells));
     let report = work(rt.alloc(), &mut station, &buffer[0..len])?;
     for line in report.lines.iter() {
-        println!(rt, "{line}")?;
+        let text = text(rt.alloc(), *line)?;
+        println!(rt, "{text}")?;
     }
     if let Some(fault) = report.refusal {
         let ground = fault.ground();
