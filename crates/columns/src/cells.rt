@@ -5,7 +5,7 @@ ghost use mathlib.Core.Path.{_≡_};
 ghost use Rattle.columns.specs.Cells.{whole, cell-at, pair-at, word-at, Wrote};
 
 // Cell `i`, and 0 past the whole cells.
-pub fn cell(bytes: &[u8], i: usize) -> u16
+pub(crate) fn cell(bytes: &[u8], i: usize) -> u16
     ensures { λ r. ⌜ r ≡ cell-at (now (bytes .entry)) i ⌝ }
 {
     if i < bytes.len() / 2 {
@@ -16,7 +16,7 @@ pub fn cell(bytes: &[u8], i: usize) -> u16
 }
 
 // Two cells as one number.
-pub fn pair(bytes: &[u8], i: usize) -> u32
+pub(crate) fn pair(bytes: &[u8], i: usize) -> u32
     ensures { λ r. ⌜ r ≡ pair-at (cell-at (now (bytes .entry))) i ⌝ }
 {
     if i < bytes.len() {
@@ -27,7 +27,7 @@ pub fn pair(bytes: &[u8], i: usize) -> u32
 }
 
 // Four cells as one number.
-pub fn word(bytes: &[u8], i: usize) -> u64
+pub(crate) fn word(bytes: &[u8], i: usize) -> u64
     ensures { λ r. ⌜ r ≡ word-at (cell-at (now (bytes .entry))) i ⌝ }
 {
     if i < bytes.len() / 2 {
@@ -38,7 +38,7 @@ pub fn word(bytes: &[u8], i: usize) -> u64
 }
 
 // Puts one cell.
-pub fn put_cell(bytes: &mut [u8], i: usize, value: u16)
+pub(crate) fn put_cell(bytes: &mut [u8], i: usize, value: u16)
     requires { ⌜ i < whole (now bytes) ⌝ }
     ensures there { λ _. ⌜ cell-at (now (bytes .exit)) i ≡ value ⌝ }
     ensures elsewhere { λ _. ⌜ ((j : ℕ) → (j ≡ i → ⊥) → cell-at (now (bytes .exit)) j ≡ cell-at (now (bytes .entry)) j) ⌝ }
@@ -48,7 +48,7 @@ pub fn put_cell(bytes: &mut [u8], i: usize, value: u16)
 }
 
 // Puts cells one after another.
-pub fn write(bytes: &mut [u8], at: usize, values: &[u16])
+pub(crate) fn write(bytes: &mut [u8], at: usize, values: &[u16])
     requires { ⌜ at + length (now values) ≤ whole (now bytes) ⌝ }
     ensures { λ _. ⌜ Wrote (cell-at (now (bytes .entry))) (cell-at (now (bytes .exit))) at (now (values .entry)) ⌝ }
 {
