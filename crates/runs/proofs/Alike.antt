@@ -1,14 +1,12 @@
 -- Equal turns are answered alike, up to the first refusal for space.
-use mathlib.Core.Bool.{Bool, true}
-use mathlib.Core.HLevel.{isProp→PathP, Π-prop}
 use mathlib.Core.List.{List, [], _∷_, map}
 use mathlib.Core.Logic.{_⊎_, inl, inr}
 use mathlib.Core.Path.{_≡_, refl, sym, ap, _∙_, subst, subst₂}
-use Prim.Native.Nat.{ℕ, _+_, _*_, _≤_}
+use Prim.Native.Nat.{ℕ, _*_}
 use native.Mathlib.Omega.{arith}
-use native.Mathlib.Bridge.{le-prop}
 use Rattle.std.specs.declared.result.Result.{Result}
 use Rattle.std.specs.declared.result.Result.the-variants.{Ok, Err}
+use Rattle.cluster.proofs.Clusters.{same-rule}
 use Rattle.cluster.specs.Rules.{Rule, SameRule}
 use Rattle.order.specs.History.{History, ground}
 use Rattle.order.specs.Records.{Bytes, post}
@@ -93,21 +91,10 @@ one-rule {P} {n} (turn {h = h} {c = c} {cs = cs} {a = a} {xs = xs} s k x) (turn 
     go (inl e) ih = alike e (ih (subst (λ (d : Reply). Run P n (after c d h) is cs ys) (sym e) y))
     go (inr l) ih = space l
 
--- Rules with the same meaning are equal: what they carry besides are proofs.
-pub rule-path : (P Q : Rule) → SameRule P Q → P ≡ Q
-rule-path P Q same = λ i. record {
-  limit = same .limit i;
-  says = λ a b x. same .says a b x i;
-  least = isProp→PathP (λ j. 1 ≤ same .limit j) (λ j. le-prop) (P .least) (Q .least) i;
-  most = isProp→PathP (λ j. same .limit j ≤ 64) (λ j. le-prop) (P .most) (Q .most) i;
-  keeps = isProp→PathP (λ j. (a b x : ℕ) → same .says a b x j ≡ true → a + b ≤ same .limit j)
-      (λ j. Π-prop (λ a. Π-prop (λ b. Π-prop (λ x. Π-prop (λ e. le-prop))))) (P .keeps) (Q .keeps) i;
-}
-
 -- Two stations of one rule, asked the same, answer alike until either lacks space.
 pub equal-turns : (P Q : Rule) (n : ℕ) (h : History) (s t : ℕ → ℕ) (cs : List Call) (xs ys : List Reply)
     → Run P n h s cs xs → Run Q n h t cs ys → SameRule P Q → Alike-until-space xs ys
-equal-turns P Q n h s t cs xs ys x y same = one-rule x (subst (λ (R : Rule). Run R n h t cs ys) (sym (rule-path P Q same)) y)
+equal-turns P Q n h s t cs xs ys x y same = one-rule x (subst (λ (R : Rule). Run R n h t cs ys) (sym (same-rule P Q same)) y)
 
 -- answers are alike to themselves, as those of two used stations are
 pub alike-self : (xs : List Reply) → Alike-until-space xs xs

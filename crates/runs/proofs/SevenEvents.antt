@@ -5,6 +5,7 @@ use mathlib.Core.Path.{_≡_, refl, sym, subst}
 use Prim.Native.Nat.{ℕ, _+_, _≤_}
 use native.Mathlib.Omega.{arith}
 use Rattle.std.proofs.shelf.Tests.{leb-true}
+use Rattle.cluster.proofs.Clusters.{same-rule}
 use Rattle.cluster.specs.Clusters.{exchanges, cluster, cover-at, latest-full}
 use Rattle.cluster.specs.Kept.{kept}
 use Rattle.cluster.specs.Rules.{Rule, fit}
@@ -17,7 +18,6 @@ use Rattle.order.specs.Vectors.{vec}
 use Rattle.station.specs.Asks.{gathered}
 use Rattle.station.specs.declared.faults.TakeFault.the-variants.{AlreadyReceived, PartnerNotSend}
 use Rattle.runs.specs.Shift.{First-contact, Goes-in, Shift, Questions, Seven-event-shift}
-use Rattle.runs.proofs.Alike.{rule-path}
 
 -- every definition that the shift computes with
 unfoldable opened : Unit {0}
@@ -36,7 +36,7 @@ contact limit least most = record {
 -- a statement about a policy's meaning holds of every policy that means first contact if it holds of one
 by-contact : (F : Rule → Type 0) (limit : ℕ) (least : 1 ≤ limit) (most : limit ≤ 64) → F (contact limit least most) → (P : Rule) → First-contact limit P → F P
 unfolding contact
-by-contact F limit least most t P c = subst F (sym (rule-path P (contact limit least most) (record { limit = c .limits; says = c .answers }))) t
+by-contact F limit least most t P c = subst F (sym (same-rule P (contact limit least most) (record { limit = c .limits; says = c .answers }))) t
 
 shift : (least : 1 ≤ 2) (most : 2 ≤ 64) → Shift (contact 2 least most)
 unfolding opened contact
