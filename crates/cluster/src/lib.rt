@@ -1,4 +1,6 @@
 // Clusters of posts that talk together: the partition, the policies that decide on merges, and the cluster rule.
+#![tactic(auto)]
+
 pub mod exchanges;
 pub mod laws;
 pub mod limit;

@@ -15,6 +15,8 @@
 // of at most 70 cells each, so two cells hold any place.
 //
 // Beside the bytes stand the number of posts, the width of a column, and for each post its count and the cells left.
+#![tactic(auto)]
+
 ghost use Rattle.std.specs.Prelude.{◌≡◌, ℕ, ◌+◌, ◌-◌, ◌*◌, ◌/◌, ◌^◌, ◌<◌, ◌≤◌, length, IfOk, Ok, ◌≢◌, slice_index, slice_index_or};
 ghost use Rattle.columns.specs.Cells.{whole, cell_at};
 ghost use Rattle.columns.specs.Layout.{Stored, Placed, Lies};

@@ -1,4 +1,6 @@
 // Joining: one operation with its law, and a running join over any type that has it.
+#![tactic(auto)]
+
 ghost use Rattle.std.specs.Prelude.{◌≡◌};
 ghost use Rattle.std.proofs.Common.{ap};
 ghost use Rattle.join.specs.Folds.{OrderFree};

@@ -1,4 +1,6 @@
 // The interface behind which stamps are kept: what every keeper of stamps answers, and what it leaves.
+#![tactic(auto)]
+
 ghost use Rattle.std.specs.Prelude.{◌≡◌, ◌≤◌};
 ghost use Rattle.keeper.specs.Answers.{ask_count, ask_space, ask_kind, ask_marked, ask_cover, ask_full, ask_entry};
 ghost use Rattle.keeper.specs.Moves.{Appends, Marks};

@@ -1,4 +1,6 @@
 // What reading a record answers, by example. A crate with tests is proved twice, so they stand apart.
+#![tactic(auto)]
+
 #[cfg(test)]
 mod tests {
     use order::record::Record;

@@ -1,4 +1,6 @@
 // A visit to a keeper, proved once for every keeper.
+#![tactic(auto)]
+
 ghost use Rattle.std.specs.Prelude.{◌≡◌, Ok};
 ghost use Rattle.keeper.specs.Answers.{ask_stamp};
 ghost use Rattle.piles.specs.Visits.{plan, seen_of, Puts, Reports};

@@ -11,6 +11,8 @@
 //
 // Beside the cells stand the number of posts, how many cells are used, and for each post how many stamps it has and
 // the place of its newest. A stamp is found by going back along the links from there.
+#![tactic(auto)]
+
 ghost use Rattle.std.specs.Prelude.{◌≡◌, ◌+◌, ◌-◌, ◌^◌, ◌<◌, ◌≤◌, length, slice_index};
 ghost use Rattle.keeper.specs.Piles.{fresh, opened};
 ghost use Rattle.pool.specs.Layout.{cover_at, link_at, with_stamp};

@@ -1,4 +1,6 @@
 // What a shift's feed comes to: the events taken, where it stops, and what the stamps cost.
+#![tactic(auto)]
+
 ghost use Rattle.std.specs.Prelude.{◌≡◌, ◌≤◌, length, IfOk, string_bytes};
 ghost use Rattle.order.specs.Records.{number as number_of_lem, post as post-of};
 ghost use Rattle.report.specs.Lines.{printed, word};

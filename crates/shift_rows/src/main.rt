@@ -1,4 +1,6 @@
 // Rows of the seven-event shift that a run shows: what a station of four posts refuses after it, and two openings.
+#![tactic(auto)]
+
 use cluster::policy::FirstContact;
 use station::core::Station;
 

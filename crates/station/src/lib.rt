@@ -1,4 +1,6 @@
 // The event station.
+#![tactic(auto)]
+
 mod asking;
 pub mod asks;
 pub mod core;

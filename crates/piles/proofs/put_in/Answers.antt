@@ -7,8 +7,8 @@ returns g c = λ s.
     let was = g.K.Keeper.meaning c.args.keeper.now in
     let is = g.K.Keeper.meaning c.append.new.self in
     let a = plan c.args.draft.post c.args.draft.header c.args.draft.entries.now in
-    let made = c.in-ok-append.ensures s in (
+    let made = c.in_ok-append.ensures s in (
       made.0,
-      puts was is a c.in-ok-before.before c.in-ok-after.after c.in-ok-number.number c.saturating-sub.result made.1
-          (c.in-ok-before.ensures s) (c.in-ok-after.ensures made.0) (c.in-ok-number.ensures made.0) c.saturating-sub.ensures,
+      puts was is a c.in_ok-before.before c.in_ok-after.after c.in_ok-number.number c.saturating_sub.result made.1
+          (c.in_ok-before.ensures s) (c.in_ok-after.ensures made.0) (c.in_ok-number.ensures made.0) c.saturating_sub.ensures,
     )

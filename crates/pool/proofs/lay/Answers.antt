@@ -4,5 +4,5 @@ use Rattle.pool.proofs.lay.Goals as goal
 
 pub returns : goal.returns
 returns c =
-    simp (c.copy-from-slice.ensures.after, c.copy-from-slice-2.ensures.after)
+    simp (c.copy_from_slice.ensures.after, c.copy_from_slice-2.ensures.after)
     (written_in_turn c.args.cells.now c.args.at c.args.header c.args.entries.now (omega arith) c.requires)

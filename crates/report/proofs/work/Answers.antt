@@ -21,16 +21,16 @@ returns-in-Err g c = record { stops = omega (arith, c.loop-taken.invariant.0); p
 
 pub loop-taken-preserved : goal.loop-taken-preserved
 loop-taken-preserved g c =
-    let pushed = c.in-ok-push.ensures in (
+    let pushed = c.in_ok-push.ensures in (
       omega (arith, pushed.len, c.loop-taken.invariant.0),
       omega (
         arith,
-        c.saturating-add-prices.ensures,
+        c.saturating_add-prices.ensures,
         c.price.ensures,
-        c.line-of.ensures.answer.1,
+        c.line_of.ensures.answer.1,
         c.loop-taken.invariant.1,
         ap cost pushed.items,
-        cost_push (vec_items c.loop-taken.lines) c.line-of.result,
+        cost_push (vec_items c.loop-taken.lines) c.line_of.result,
       ),
       c.loop-taken.invariant.2,
     )

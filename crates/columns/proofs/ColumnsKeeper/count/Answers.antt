@@ -5,4 +5,4 @@ use Rattle.columns.proofs.ColumnsKeeper.count.Goals as goal
 
 pub returns : goal.returns
 returns c =
-    λ ok. ap Ok (c.count-of.ensures ∙ sym (length-map-range_with_len _ 0 _)) ∙ cond_below c.args.post c.args.self.now.posts _ _ c.if-post-self.false
+    λ ok. ap Ok (c.count_of.ensures ∙ sym (length-map-range_with_len _ 0 _)) ∙ cond_below c.args.post c.args.self.now.posts _ _ c.if-post-self.false

@@ -9,7 +9,7 @@ loop-i-init c = wrote_none (cell_at c.args.bytes.now) c.args.at c.args.values.no
 
 pub loop-i-preserved : goal.loop-i-preserved
 loop-i-preserved c =
-    wrote_more (cell_at c.args.bytes.now) (cell_at c.loop-i.bytes) (cell_at c.put-cell.new.bytes) c.args.at c.loop-i.i _ c.args.values.now (omega arith) c.loop-i.invariant refl c.put-cell.ensures.there c.put-cell.ensures.elsewhere
+    wrote_more (cell_at c.args.bytes.now) (cell_at c.loop-i.bytes) (cell_at c.put_cell.new.bytes) c.args.at c.loop-i.i _ c.args.values.now (omega arith) c.loop-i.invariant refl c.put_cell.ensures.there c.put_cell.ensures.elsewhere
 
 pub returns : goal.returns
 returns c =

@@ -5,9 +5,9 @@ use Rattle.pool.specs.Stack.{Sound, pile}
 use Rattle.pool.proofs.Appending.{append_fails, append_done, next_index}
 use Rattle.pool.proofs.PoolKeeper.append.Goals as goal
 
-pub returns-in-err-end : goal.returns-in-err-end
-returns-in-err-end c s =
-    append_fails c.args.self.now.index c.args.self.now.cells.now c.args.post c.args.header c.args.entries.now s (c.in-err-end.ensures s) c.from-residual.ensures.1
+pub returns-in_err-end : goal.returns-in_err-end
+returns-in_err-end c s =
+    append_fails c.args.self.now.index c.args.self.now.cells.now c.args.post c.args.header c.args.entries.now s (c.in_err-end.ensures s) c.from_residual.ensures.1
 
 pub returns : goal.returns
 returns c s =
@@ -15,8 +15,8 @@ returns c s =
     let xs = c.args.self.now.cells.now in
     subst
     (λ (ys : List ℕ).
-    Sound (next_index ix c.args.post c.in-ok-end.end) ys
-    × Appends (pile ix xs) (pile (next_index ix c.args.post c.in-ok-end.end) ys) c.args.post c.args.header c.args.entries.now (Ok tt))
+    Sound (next_index ix c.args.post c.in_ok-end.end) ys
+    × Appends (pile ix xs) (pile (next_index ix c.args.post c.in_ok-end.end) ys) c.args.post c.args.header c.args.entries.now (Ok tt))
     (sym c.lay.ensures)
-    (append_done ix xs c.args.post c.args.header c.packed-cells.result c.args.entries.now c.in-ok-end.end s c.in-ok-end.ensures
+    (append_done ix xs c.args.post c.args.header c.packed-cells.result c.args.entries.now c.in_ok-end.end s c.in_ok-end.ensures
     (subst (λ (link : ℕ). Packs c.packed-cells.result c.args.post c.args.header link) c.newest_of.ensures c.packed-cells.ensures))

@@ -5,5 +5,5 @@ use Rattle.pool.proofs.header.packed.Goals as goal
 pub returns : goal.returns
 unfolding mark_at code_at post_at cover_at full_at link_at
 returns c =
-    let code : (c.args.post * 8 + c.code-of.result * 2) / 2 % 4 ≡ c.code-of.result = omega arith in
-    record { long = refl; unmarked = omega arith; kind = ap kind_of code ∙ c.code-of.ensures.0; posted = omega arith; cover = omega arith; full = refl; linked = omega arith }
+    let code : (c.args.post * 8 + c.code_of.result * 2) / 2 % 4 ≡ c.code_of.result = omega arith in
+    record { long = refl; unmarked = omega arith; kind = ap kind_of code ∙ c.code_of.ensures.0; posted = omega arith; cover = omega arith; full = refl; linked = omega arith }

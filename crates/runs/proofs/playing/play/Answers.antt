@@ -34,9 +34,9 @@ returns-in-Reach g c =
 pub returns-in-Horizon : goal.returns-in-Horizon
 returns-in-Horizon g c =
     let later = first c.in-Horizon.slice.len (c.horizon.new.slice ++ drop (length c.horizon.new.slice) c.in-Horizon.slice.items) in
-    let whole : later ≡ c.horizon.new.slice = take_at c.horizon.new.slice _ _ (c.horizon.auto.slice ∙ c.deref-mut.ensures.len) in
+    let whole : later ≡ c.horizon.new.slice = take_at c.horizon.new.slice _ _ (c.horizon.auto.slice ∙ c.deref_mut.ensures.len) in
     let events = sym c.deref-in-Horizon.ensures.value in
-    let w = plays_as (ap call_of c.in-Horizon.is ∙ ap₂ horizon events (sym c.deref-mut.ensures.value)) (ap (λ es. horizon es later) events)
+    let w = plays_as (ap call_of c.in-Horizon.is ∙ ap₂ horizon events (sym c.deref_mut.ensures.value)) (ap (λ es. horizon es later) events)
     (plays_horizon g.P.Policy.rule g.K.Keeper.sound g.K.Keeper.meaning _ _ _ later _ (λ e. let q = c.horizon.ensures.barred e in (q.0, whole ∙ q.1)) (λ h s. let q = c.horizon.ensures.answer h s in (q.0, whole ∙ q.1))) in
     record { barred = w.barred; played = w.played; arguments = w.arguments }
 

@@ -3,7 +3,7 @@ use Rattle.runs.proofs.supplied.compare_pool_and_columns.Goals as goal
 
 pub returns : goal.returns
 returns g c =
-    let a = c.open-keeper-a.ensures in
-    let b = c.open-keeper-b.ensures in
+    let a = c.open-keeper_a.ensures in
+    let b = c.open-keeper_b.ensures in
     let each = c.compare.ensures.each in
     record { count = c.compare.ensures.count; compared = fresh_compared _ _ _ _ _ _ _ _ _ _ _ _ a.meaning b.meaning (each.0 a.sound) (each.1 b.sound) }

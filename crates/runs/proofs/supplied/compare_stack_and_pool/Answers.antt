@@ -8,8 +8,8 @@ pub returns : goal.returns
 returns g c =
     let below = c.open-below.ensures in
     let quota = c.new-limited.ensures in
-    let a = c.new-keeper-a.ensures in
-    let b = c.open-keeper-b.ensures in
+    let a = c.new-keeper_a.ensures in
+    let b = c.open-keeper_b.ensures in
     let each = c.compare.ensures.each in
     record {
       count = c.compare.ensures.count;

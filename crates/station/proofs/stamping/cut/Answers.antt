@@ -7,17 +7,17 @@ use Rattle.station.proofs.stamping.cut.Goals.{then-contains, else-contains}
 pub loop-post-init : goal.loop-post-init
 loop-post-init c = cutting_start c.args.vector c.args.cover.bits _ refl
 
-pub overflow-cast-entries-then-contains : goal.overflow-cast-entries-then-contains
-overflow-cast-entries-then-contains c = omega (arith, length_below_le c.loop-post.post c.args.cover.bits)
+pub overflow_cast-entries-then-contains : goal.overflow_cast-entries-then-contains
+overflow_cast-entries-then-contains c = omega (arith, length_below_le c.loop-post.post c.args.cover.bits)
 
-pub offset-bounds-entries-len : goal.offset-bounds-entries-len
-offset-bounds-entries-len c = omega (arith, length_below_le c.loop-post.post c.args.cover.bits)
+pub offset_bounds-entries-len : goal.offset_bounds-entries-len
+offset_bounds-entries-len c = omega (arith, length_below_le c.loop-post.post c.args.cover.bits)
 
 pub bounds-entries-len : goal.bounds-entries-len
 bounds-entries-len c = omega (arith, length_below_le c.loop-post.post c.args.cover.bits)
 
-pub overflow-add-len : goal.overflow-add-len
-overflow-add-len c = omega (arith, length_below_le c.loop-post.post c.args.cover.bits)
+pub overflow_add-len : goal.overflow_add-len
+overflow_add-len c = omega (arith, length_below_le c.loop-post.post c.args.cover.bits)
 
 pub loop-post-preserved : goal.loop-post-preserved
 loop-post-preserved c =

@@ -8,7 +8,7 @@ loop-receiver-init c = capped_none (row_sum (told c.args.self.now) c.args.a.bits
 
 pub loop-receiver-preserved : goal.loop-receiver-preserved
 loop-receiver-preserved c =
-    c.saturating-add-sum.ensures
+    c.saturating_add-sum.ensures
     ∙ capped_more c.loop-receiver.receiver c.loop-receiver.sum c.row.result (row_sum (told c.args.self.now) c.args.a.bits c.args.b.bits) c.loop-receiver.invariant c.row.ensures
 
 pub returns : goal.returns

@@ -16,8 +16,8 @@ loop-sender-preserved c =
     let n = told c.args.self.now c.args.receiver q in
     elim c.if-linked.branch [
       | then-linked w ↦
-          let v : w.count.result ≡ capped (f q) = omega (arith, cond-true t n 0 (sym w.if-linked.ensures), w.count.ensures, w.count.type-inv) in
-          w.sum-is ∙ w.saturating-add-sum.ensures ∙ capped_more q c.loop-sender.sum w.count.result f c.loop-sender.invariant v
+          let v : w.count.result ≡ capped (f q) = omega (arith, cond-true t n 0 (sym w.if-linked.ensures), w.count.ensures, w.count.type_inv) in
+          w.sum-is ∙ w.saturating_add-sum.ensures ∙ capped_more q c.loop-sender.sum w.count.result f c.loop-sender.invariant v
       | else-linked w ↦ w.sum-is ∙ capped_skip q c.loop-sender.sum f c.loop-sender.invariant (cond-false t n 0 (sym w.if-linked.ensures))
     ]
 

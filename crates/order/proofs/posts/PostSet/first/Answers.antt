@@ -3,8 +3,8 @@ use Rattle.std.proofs.lemmas.Nat.{one_shl}
 use Rattle.order.proofs.PostSets.{has_all, has_first}
 use Rattle.order.proofs.posts.PostSet.first.Goals as goal
 
-pub returns-then-posts-ge-MAX-POSTS : goal.returns-then-posts-ge-MAX-POSTS
-returns-then-posts-ge-MAX-POSTS c =
+pub returns-then-posts-ge-MAX_POSTS : goal.returns-then-posts-ge-MAX_POSTS
+returns-then-posts-ge-MAX_POSTS c =
     let top : 64 ≡ min c.args.posts 64 = omega arith in
     record { bits = ap (λ (n : ℕ). 2 ^ n - 1) top; members = λ q. has_all c.args.posts q (omega arith) }
 

@@ -6,40 +6,40 @@ use Rattle.order.specs.Records.{post, kind, spare, number, partner_post, partner
 use Rattle.order.proofs.Forms.{form-length, form_kind, form_post, form_of_read, record_of_read, refused_by}
 use Rattle.order.proofs.record.Record.read.Goals as goal
 
-pub returns-then-bytes-ne-RECORD-LEN : goal.returns-then-bytes-ne-RECORD-LEN
-returns-then-bytes-ne-RECORD-LEN c =
-    record { ground = sym (form-length c.args.posts c.args.bytes.now c.if-bytes-ne-RECORD-LEN.true); value = tt }
+pub returns-then-bytes-ne-RECORD_LEN : goal.returns-then-bytes-ne-RECORD_LEN
+returns-then-bytes-ne-RECORD_LEN c =
+    record { ground = sym (form-length c.args.posts c.args.bytes.now c.if-bytes-ne-RECORD_LEN.true); value = tt }
 
-pub returns-in-err-kind : goal.returns-in-err-kind
+pub returns-in_err-kind : goal.returns-in_err-kind
 unfolding kind
-returns-in-err-kind c =
-    let p = err_from_is_err_and c.from-residual.result c.from-residual.ensures.1 in
-    let h = c.in-err-kind.ensures in
+returns-in_err-kind c =
+    let p = err_from_is_err_and c.from_residual.result c.from_residual.ensures.1 in
+    let h = c.in_err-kind.ensures in
     record {
       ground =
-          refused_by c.from-residual.result p.0 UnknownKind _ p.1 (p.2 ∙ h.1)
-          (sym (form_kind c.args.posts c.args.bytes.now c.if-bytes-ne-RECORD-LEN.false h.0));
-      value = IfOk-from_err c.from-residual.result (λ t. t ≡ record_of c.args.bytes.now) c.from-residual.ensures.0;
+          refused_by c.from_residual.result p.0 UnknownKind _ p.1 (p.2 ∙ h.1)
+          (sym (form_kind c.args.posts c.args.bytes.now c.if-bytes-ne-RECORD_LEN.false h.0));
+      value = IfOk-from_err c.from_residual.result (λ t. t ≡ record_of c.args.bytes.now) c.from_residual.ensures.0;
     }
 
 pub returns-then-event-posts : goal.returns-then-event-posts
 unfolding kind post
 returns-then-event-posts c =
-    let k = c.in-ok-kind.ensures in
-    let p = ap (λ e. e.post) c.event-at-event.ensures in
-    record { ground = sym (form_post c.args.posts c.args.bytes.now c.if-bytes-ne-RECORD-LEN.false k.0 (omega arith)); value = tt }
+    let k = c.in_ok-kind.ensures in
+    let p = ap (λ e. e.post) c.event_at-event.ensures in
+    record { ground = sym (form_post c.args.posts c.args.bytes.now c.if-bytes-ne-RECORD_LEN.false k.0 (omega arith)); value = tt }
 
-pub returns-in-err-check-tail : goal.returns-in-err-check-tail
+pub returns-in_err-check_tail : goal.returns-in_err-check_tail
 unfolding post kind spare number partner_post partner_number
-returns-in-err-check-tail c =
-    let p = err_from_is_err_and c.from-residual-in-err-check-tail.result c.from-residual-in-err-check-tail.ensures.1 in
+returns-in_err-check_tail c =
+    let p = err_from_is_err_and c.from_residual-in_err-check_tail.result c.from_residual-in_err-check_tail.ensures.1 in
     record {
       ground =
-          refused_by c.from-residual-in-err-check-tail.result p.0 c.in-err-check-tail.field-0.0 _ p.1 p.2
-          (form_of_read c.args.posts c.args.bytes.now c.in-ok-kind.kind c.event-at-event.result c.event-at-partner.result (ground c.in-err-check-tail.field-0.0)
-          c.if-bytes-ne-RECORD-LEN.false c.in-ok-kind.ensures c.event-at-event.ensures c.if-event-posts.false
-          c.event-at-partner.ensures c.in-err-check-tail.ensures);
-      value = IfOk-from_err c.from-residual-in-err-check-tail.result (λ t. t ≡ record_of c.args.bytes.now) c.from-residual-in-err-check-tail.ensures.0;
+          refused_by c.from_residual-in_err-check_tail.result p.0 c.in_err-check_tail.field-0.0 _ p.1 p.2
+          (form_of_read c.args.posts c.args.bytes.now c.in_ok-kind.kind c.event_at-event.result c.event_at-partner.result (ground c.in_err-check_tail.field-0.0)
+          c.if-bytes-ne-RECORD_LEN.false c.in_ok-kind.ensures c.event_at-event.ensures c.if-event-posts.false
+          c.event_at-partner.ensures c.in_err-check_tail.ensures);
+      value = IfOk-from_err c.from_residual-in_err-check_tail.result (λ t. t ≡ record_of c.args.bytes.now) c.from_residual-in_err-check_tail.ensures.0;
     }
 
 pub returns : goal.returns
@@ -47,10 +47,10 @@ unfolding post kind spare number partner_post partner_number
 returns c =
     record {
       ground =
-          form_of_read c.args.posts c.args.bytes.now c.in-ok-kind.kind c.event-at-event.result c.event-at-partner.result _
-          c.if-bytes-ne-RECORD-LEN.false c.in-ok-kind.ensures c.event-at-event.ensures c.if-event-posts.false
-          c.event-at-partner.ensures c.in-ok-check-tail.ensures;
+          form_of_read c.args.posts c.args.bytes.now c.in_ok-kind.kind c.event_at-event.result c.event_at-partner.result _
+          c.if-bytes-ne-RECORD_LEN.false c.in_ok-kind.ensures c.event_at-event.ensures c.if-event-posts.false
+          c.event_at-partner.ensures c.in_ok-check_tail.ensures;
       value =
-          record_of_read c.args.bytes.now c.in-ok-kind.kind c.event-at-event.result c.event-at-partner.result
-          c.in-ok-kind.ensures.1 c.event-at-event.ensures c.event-at-partner.ensures;
+          record_of_read c.args.bytes.now c.in_ok-kind.kind c.event_at-event.result c.event_at-partner.result
+          c.in_ok-kind.ensures.1 c.event_at-event.ensures c.event_at-partner.ensures;
     }

@@ -7,14 +7,14 @@ use Rattle.station.proofs.core.Station.draft.Goals as goal
 pub returns : goal.returns
 returns g c h b st ok is =
     let ruled = c.ruling-ruling.ensures h b st ok is in
-    let cut = c.cut-cut.ensures c.next-vector.ensures.len in
+    let cut = c.cut-cut.ensures c.next_vector.ensures.len in
     record {
       record_is = is;
       outcome_is = ruled.outcome_is;
       kind_is = ap (λ (r : Record). r.kind) is;
       cover_is = ruled.cover_is;
-      full_is = c.next-full-full.ensures h b st ok is ruled.cover_is;
+      full_is = c.next_full-full.ensures h b st ok is ruled.cover_is;
       room = cut.room;
       len_is = cut.len_is ∙ ap size ruled.cover_is;
-      entries_are = cut.entries_are ∙ entries_known _ _ (c.next-vector.ensures.full h b st ok is) ruled.cover_is;
+      entries_are = cut.entries_are ∙ entries_known _ _ (c.next_vector.ensures.full h b st ok is) ruled.cover_is;
     }

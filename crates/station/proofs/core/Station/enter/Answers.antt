@@ -9,13 +9,13 @@ use Rattle.station.specs.Drafts.{Drafted}
 use Rattle.station.specs.Entries.{Groups, Stamped}
 use Rattle.station.specs.Stands.{Took}
 
-pub returns-in-err-keep : goal.returns-in-err-keep
-returns-in-err-keep g c h b st small ok d =
+pub returns-in_err-keep : goal.returns-in_err-keep
+returns-in_err-keep g c h b st small ok d =
     let same = c.keep.ensures.same in
     let k = c.keep.ensures.kept h b st small ok d in
-    let was = c.in-err-keep.was in
+    let was = c.in_err-keep.was in
     let left = MatchResult-at_err _ _ _ was k.2 in
-    let p = err_from_is_err_and c.from-residual.result c.from-residual.ensures.1 in
+    let p = err_from_is_err_and c.from_residual.result c.from_residual.ensures.1 in
     subst (λ r. Took g.P.Policy.rule g.K.Keeper.sound g.K.Keeper.meaning c.args.self.now c.keep.new.self h b r) (sym (p.1 ∙ ap Err p.2))
     (took_refused _ _ _ c.args.self.now c.keep.new.self h b st ok same.0 same.1.1 k.0 _ (sym was ∙ k.1) left.0 same.1.0 left.1)
 
@@ -23,7 +23,7 @@ pub returns : goal.returns
 returns g c h b st small ok d =
     let same = c.keep.ensures.same in
     let k = c.keep.ensures.kept h b st small ok d in
-    let was = c.in-ok-keep.was in
+    let was = c.in_ok-keep.was in
     let also = c.regroup.ensures.same in
     let R = g.P.Policy.rule c.args.self.now.policy in
     let n = (g.K.Keeper.meaning c.args.self.now.keeper).posts in

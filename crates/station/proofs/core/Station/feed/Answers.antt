@@ -13,22 +13,22 @@ loop-taken-preserved g c h st =
     let k = c.loop-taken.taken in
     let bytes = c.args.bytes.now in
     let going = c.loop-taken.invariant h st in
-    let took = c.take-at.ensures _ going.stands in
-    subst (λ (m : ℕ). Going g.P.Policy.rule g.K.Keeper.sound g.K.Keeper.meaning c.args.self.now c.take-at.new.self h bytes (length bytes / 8) m) (sym (add-one k))
-    (placed_on _ _ _ _ h bytes _ _ _ k c.loop-taken-test.true going _ (record_at k bytes) (k * 8) took.0 took.2 _ (sym c.in-ok-take-at.was ∙ took.1))
+    let took = c.take_at.ensures _ going.stands in
+    subst (λ (m : ℕ). Going g.P.Policy.rule g.K.Keeper.sound g.K.Keeper.meaning c.args.self.now c.take_at.new.self h bytes (length bytes / 8) m) (sym (add-one k))
+    (placed_on _ _ _ _ h bytes _ _ _ k c.loop-taken-test.true going _ (record_at k bytes) (k * 8) took.0 took.2 _ (sym c.in_ok-take_at.was ∙ took.1))
 
-pub returns-in-err-take-at : goal.returns-in-err-take-at
-returns-in-err-take-at g c = record {
+pub returns-in_err-take_at : goal.returns-in_err-take_at
+returns-in_err-take_at g c = record {
   barred = λ e. absurd (both_ways _ c.if-self.false e);
   ragged = λ h st ne. absurd (ne (omega arith));
   fed = λ h st even.
       let k = c.loop-taken.taken in
       let bytes = c.args.bytes.now in
       let going = c.loop-taken.invariant h st in
-      let took = c.take-at.ensures _ going.stands in
-      let p = err_from_is_err_and c.from-residual.result c.from-residual.ensures.1 in
-      subst (λ r. Fed g.P.Policy.rule g.K.Keeper.sound g.K.Keeper.meaning c.args.self.now c.take-at.new.self h bytes r) (sym (p.1 ∙ ap Err p.2))
-      (placed_stops _ _ _ _ h bytes _ _ _ k c.loop-taken-test.true going _ (record_at k bytes) refl (k * 8) (omega arith) took.0 took.2 _ (sym c.in-err-take-at.was ∙ took.1));
+      let took = c.take_at.ensures _ going.stands in
+      let p = err_from_is_err_and c.from_residual.result c.from_residual.ensures.1 in
+      subst (λ r. Fed g.P.Policy.rule g.K.Keeper.sound g.K.Keeper.meaning c.args.self.now c.take_at.new.self h bytes r) (sym (p.1 ∙ ap Err p.2))
+      (placed_stops _ _ _ _ h bytes _ _ _ k c.loop-taken-test.true going _ (record_at k bytes) refl (k * 8) (omega arith) took.0 took.2 _ (sym c.in_err-take_at.was ∙ took.1));
 }
 
 pub returns : goal.returns

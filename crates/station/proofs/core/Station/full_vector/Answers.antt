@@ -17,7 +17,7 @@ use Rattle.station.specs.Drafts.{at}
 
 pub loop-post-init : goal.loop-post-init
 loop-post-init g c = (
-  ap (λ (v : Vector). length v.entries) c.new-all.ensures ∙ c.kept-entries-own.ensures.len,
+  ap (λ (v : Vector). length v.entries) c.new-all.ensures ∙ c.kept_entries-own.ensures.len,
   λ h st p k held cover own.
       gathers_none _ st.valid p k held _
       (λ q. ap (λ (v : Vector). at v q) c.new-all.ensures ∙ own q ∙ ap (λ (b : ℕ). cond (has b q) (vec h p k q) 0) cover),
@@ -27,7 +27,7 @@ pub loop-post-preserved : goal.loop-post-preserved
 loop-post-preserved g c = elim c.if-contains.branch [
   | then-contains w ↦
       let i = c.loop-post.post in
-      let same = c.loop-post.invariant.0 ∙ sym w.latest-full-vector.ensures.len in
+      let same = c.loop-post.invariant.0 ∙ sym w.latest_full_vector.ensures.len in
       let value = ap (λ (x : Running Vector). x.value) w.all-is ∙ w.add.ensures in (
         ap (λ (v : Vector). length v.entries) value ∙ length_larger _ _ same ∙ c.loop-post.invariant.0,
         λ h st p k held cover own.
@@ -36,9 +36,9 @@ loop-post-preserved g c = elim c.if-contains.branch [
             let t = sym c.contains.ensures.value ∙ w.if-contains.true in
             let entry = own i ∙ cond-true _ _ _ t in
             let inside = cover_at_posts R st.valid p k i held (sym (ap (λ (b : ℕ). has b i) cover) ∙ t) in
-            let most : at c.kept-entries-own.result i ≤ count h i = omega (arith, vec-count st.valid p k i held) in
-            gathers_with R st.valid p k held i _ _ (at w.latest-full-vector.result)
-            (λ q. w.latest-full-vector.ensures.full h st inside most q ∙ ap (λ (m : ℕ). vec h i (latest_full R n h i m) q) entry)
+            let most : at c.kept_entries-own.result i ≤ count h i = omega (arith, vec-count st.valid p k i held) in
+            gathers_with R st.valid p k held i _ _ (at w.latest_full_vector.result)
+            (λ q. w.latest_full_vector.ensures.full h st inside most q ∙ ap (λ (m : ℕ). vec h i (latest_full R n h i m) q) entry)
             (λ q. ap (λ (v : Vector). at v q) value ∙ get_or_larger _ _ q same)
             (c.loop-post.invariant.1 h st p k held cover own),
       )
@@ -59,7 +59,7 @@ returns g c = record {
   full = λ h st k cover q.
       let e = c.args.event in
       let held = (known _ h e k).most in
-      let own = c.kept-entries-own.ensures.kept h st k (λ q t. sym (ap (λ (b : ℕ). has b q) cover) ∙ t) in
+      let own = c.kept_entries-own.ensures.kept h st k (λ q t. sym (ap (λ (b : ℕ). has b q) cover) ∙ t) in
       ap (λ (v : Vector). at v q) c.value.ensures
       ∙ gathers_all _ st.valid e.post e.number held c.loop-post.post _ (omega (arith, st.few)) (c.loop-post.invariant.1 h st e.post e.number held cover own) q;
 }

@@ -15,7 +15,7 @@ loop-place-init g c h st = (
       let item = c.in-Some.ensures.item in
       let k = known _ h e (first_held _ h es e item.3.0 item.1 none) in
       subst (λ (s : PostSet). Hears h es 0 s.bits) (sym c.new-heard.ensures)
-      (hears_first h es e _ (at c.vector.result) item.3.0 item.1 (c.vector.ensures.full h st k.inside k.most) c.posts-of.ensures),
+      (hears_first h es e _ (at c.vector.result) item.3.0 item.1 (c.vector.ensures.full h st k.inside k.most) c.posts_of.ensures),
 )
 
 pub returns-then-not-holds : goal.returns-then-not-holds
@@ -35,7 +35,7 @@ loop-place-preserved g c h st =
     let k = known _ h _ held in (
       missing_more _ h es i _ c.loop-place-test.true held (c.loop-place.invariant h st).0,
       λ none. subst (λ (s : PostSet). Hears h es (i + 1) s.bits) (sym c.add.ensures)
-          (hears_more h es i _ _ _ (at c.vector-in-loop-place.result) c.loop-place-test.true (c.vector-in-loop-place.ensures.full h st k.inside k.most) c.posts-of-in-loop-place.ensures ((c.loop-place.invariant h st).1 none)),
+          (hears_more h es i _ _ _ (at c.vector-in-loop-place.result) c.loop-place-test.true (c.vector-in-loop-place.ensures.full h st k.inside k.most) c.posts_of-in-loop-place.ensures ((c.loop-place.invariant h st).1 none)),
     )
 
 pub returns : goal.returns

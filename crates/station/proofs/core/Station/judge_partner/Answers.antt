@@ -17,21 +17,21 @@ returns-then-not-holds g c h b st named inside =
     let missing = at (λ (e : Event). held h e.post e.number ≡ false) named (not_held _ h c.args.send inside none) in
     sym (ap (λ (x : ℕ). verdict x tt) (ground_9 h b missing))
 
-pub returns-then-not-is-send : goal.returns-then-not-is-send
+pub returns-then-not-is_send : goal.returns-then-not-is_send
 unfolding verdict
-returns-then-not-is-send g c h b st named inside =
+returns-then-not-is_send g c h b st named inside =
     let there = sym (c.holds.ensures h st) ∙ c.if-not-holds.false in
-    let other = sym (c.is-send.ensures h st there) ∙ c.if-not-is-send.true in
+    let other = sym (c.is_send.ensures h st there) ∙ c.if-not-is_send.true in
     sym (ap (λ (x : ℕ). verdict x tt) (ground_10 h b
     (at (λ (e : Event). held h e.post e.number ≡ true) named (held_known _ h c.args.send there))
     (at (λ (e : Event). eqb (kind_at h e.post e.number) 1 ≡ false) named other)))
 
-pub returns-then-is-received : goal.returns-then-is-received
+pub returns-then-is_received : goal.returns-then-is_received
 unfolding verdict
-returns-then-is-received g c h b st named inside =
+returns-then-is_received g c h b st named inside =
     let there = sym (c.holds.ensures h st) ∙ c.if-not-holds.false in
-    let send = sym (c.is-send.ensures h st there) ∙ c.if-not-is-send.false in
-    let gone = sym (c.is-received.ensures h st there) ∙ c.if-is-received.true in
+    let send = sym (c.is_send.ensures h st there) ∙ c.if-not-is_send.false in
+    let gone = sym (c.is_received.ensures h st there) ∙ c.if-is_received.true in
     sym (ap (λ (x : ℕ). verdict x tt) (ground_11 h b
     (at (λ (e : Event). held h e.post e.number ≡ true) named (held_known _ h c.args.send there))
     (at (λ (e : Event). eqb (kind_at h e.post e.number) 1 ≡ true) named send)
@@ -41,8 +41,8 @@ pub returns : goal.returns
 unfolding verdict
 returns g c h b st named inside =
     let there = sym (c.holds.ensures h st) ∙ c.if-not-holds.false in
-    let send = sym (c.is-send.ensures h st there) ∙ c.if-not-is-send.false in
-    let fresh = sym (c.is-received.ensures h st there) ∙ c.if-is-received.false in
+    let send = sym (c.is_send.ensures h st there) ∙ c.if-not-is_send.false in
+    let fresh = sym (c.is_received.ensures h st there) ∙ c.if-is_received.false in
     sym (ap (λ (x : ℕ). verdict x tt) (ground_0 h b
     (at (λ (e : Event). held h e.post e.number ≡ true) named (held_known _ h c.args.send there))
     (at (λ (e : Event). eqb (kind_at h e.post e.number) 1 ≡ true) named send)

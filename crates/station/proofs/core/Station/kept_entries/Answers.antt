@@ -4,7 +4,7 @@ use Rattle.std.proofs.lemmas.List.{length-set}
 use Rattle.station.proofs.Reading.{known}
 use Rattle.station.proofs.VectorReading.{zeros, Upto, upto_none, upto_with, upto_without, upto_all, read_entry, covered_below, not_refused}
 use Rattle.station.proofs.core.Station.kept_entries.Goals as goal
-use Rattle.station.proofs.core.Station.kept_entries.Goals.{then-contains+in-Ok, then-contains+in-default, else-contains}
+use Rattle.station.proofs.core.Station.kept_entries.Goals.{then-contains+in-Ok, then-contains+in_default, else-contains}
 
 pub loop-post-init : goal.loop-post-init
 loop-post-init g c = (refl, λ h st k covers. upto_none (replicate 64 0) _ _ (zeros 64))
@@ -25,11 +25,11 @@ loop-post-preserved g c =
             subst (λ (xs : List ℕ). Upto xs bits (i + 1) (vec h e.post e.number)) (sym w.entries-is)
             (upto_with _ bits i _ _ (omega arith) t is (c.loop-post.invariant.1 h st k covers)),
       )
-      | then-contains+in-default w ↦ (
+      | then-contains+in_default w ↦ (
         ap length w.entries-is ∙ size,
         λ h st k covers.
             let t = sym c.contains.ensures.value ∙ w.if-contains.true in
-            absurd (not_refused _ _ (w.in-default.ensures st.keeps ∙ read_entry _ _ _ _ h st e i (known _ h e k) (covers i t))),
+            absurd (not_refused _ _ (w.in_default.ensures st.keeps ∙ read_entry _ _ _ _ h st e i (known _ h e k) (covers i t))),
       )
       | else-contains w ↦ (
         ap length w.entries-is ∙ size,

@@ -16,7 +16,7 @@ returns-in-Receive g c =
       len = ap (λ (v : Vector). length v.entries) c.join.ensures ∙ length_larger _ _ same ∙ c.vector-previous.ensures.len;
       known = λ h b st fine is q.
           let two = receive_code _ h b _ fine is c.in-Receive.is in
-          let before = same_previous _ h b _ _ fine is c.saturating-sub.ensures in
+          let before = same_previous _ h b _ _ fine is c.saturating_sub.ensures in
           let send = same_partner _ h b _ fine is two in
           ap (λ (v : Vector). at v q) c.join.ensures ∙ get_or_larger _ _ q same
           ∙ ap₂ (λ (x y : ℕ). max x y)
@@ -24,12 +24,12 @@ returns-in-Receive g c =
           (c.vector.ensures.full h st send.inside send.most q ∙ send.entry q ∙ sym (cond-true _ _ _ (eq-eqb (kind b) 2 two)));
     }
 
-pub returns-in-default : goal.returns-in-default
-returns-in-default g c = record {
+pub returns-in_default : goal.returns-in_default
+returns-in_default g c = record {
   len = c.vector-previous.ensures.len;
   known = λ h b st fine is q.
-      let before = same_previous _ h b _ _ fine is c.saturating-sub.ensures in
-      let other = ne_eqb (kind b) 2 (λ two. c.in-default.not-Receive (ap (λ (x : Record). x.kind) is ∙ ap kind_named two)) in
+      let before = same_previous _ h b _ _ fine is c.saturating_sub.ensures in
+      let other = ne_eqb (kind b) 2 (λ two. c.in_default.not-Receive (ap (λ (x : Record). x.kind) is ∙ ap kind_named two)) in
       let entry = c.vector-previous.ensures.full h st before.inside before.most q ∙ before.entry q in
       omega (arith, entry, cond-false (receives b) (vec h (partner_post b) (partner_number b) q) 0 other);
 }

@@ -13,10 +13,10 @@ pub returns-in-Ok : goal.returns-in-Ok
 returns-in-Ok g c h b st ok is same =
     let all = first-all _ _ _ st.few (c.posts.ensures st.keeps).0 c.first.ensures.bits in
     next_full_before _ _ _ _ h st b ok (λ e. false≢true (c.if-eq.ensures.1 (same ∙ e ∙ sym all)))
-    _ (ap (λ (r : Record). r.event.post) is) (c.saturating-sub.ensures ∙ ap (λ (r : Record). r.event.number - 1) is) (Ok c.in-Ok.full) (c.in-Ok.ensures st.keeps)
+    _ (ap (λ (r : Record). r.event.post) is) (c.saturating_sub.ensures ∙ ap (λ (r : Record). r.event.number - 1) is) (Ok c.in-Ok.full) (c.in-Ok.ensures st.keeps)
 
 pub returns-in-Err : goal.returns-in-Err
 returns-in-Err g c h b st ok is same =
     let all = first-all _ _ _ st.few (c.posts.ensures st.keeps).0 c.first.ensures.bits in
     next_full_before _ _ _ _ h st b ok (λ e. false≢true (c.if-eq.ensures.1 (same ∙ e ∙ sym all)))
-    _ (ap (λ (r : Record). r.event.post) is) (c.saturating-sub.ensures ∙ ap (λ (r : Record). r.event.number - 1) is) (Err c.in-Err.field-0) (c.in-Err.ensures st.keeps)
+    _ (ap (λ (r : Record). r.event.post) is) (c.saturating_sub.ensures ∙ ap (λ (r : Record). r.event.number - 1) is) (Err c.in-Err.field-0) (c.in-Err.ensures st.keeps)

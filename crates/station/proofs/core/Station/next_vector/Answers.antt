@@ -5,9 +5,9 @@ use Rattle.std.proofs.lemmas.List.{length-set}
 use Rattle.station.proofs.VectorReading.{next_entry}
 use Rattle.station.proofs.core.Station.next_vector.Goals as goal
 
-pub returns-then-record-lt-MAX-POSTS : goal.returns-then-record-lt-MAX-POSTS
-returns-then-record-lt-MAX-POSTS g c =
-    let before = c.known-before-vector in
+pub returns-then-record-lt-MAX_POSTS : goal.returns-then-record-lt-MAX_POSTS
+returns-then-record-lt-MAX_POSTS g c =
+    let before = c.known_before-vector in
     record {
       len = length-set _ _ _ ∙ before.ensures.len;
       full = λ h b st fine is q.
@@ -15,8 +15,8 @@ returns-then-record-lt-MAX-POSTS g c =
           ∙ next_entry _ h b st.few fine _ before.ensures.len (before.ensures.known h b st fine is) q;
     }
 
-pub returns-else-record-lt-MAX-POSTS : goal.returns-else-record-lt-MAX-POSTS
-returns-else-record-lt-MAX-POSTS g c = record {
-  len = c.known-before-vector.ensures.len;
+pub returns-else-record-lt-MAX_POSTS : goal.returns-else-record-lt-MAX_POSTS
+returns-else-record-lt-MAX_POSTS g c = record {
+  len = c.known_before-vector.ensures.len;
   full = λ h b st fine is q. absurd (omega (arith, st.few, (passed _ h b fine).inside, ap (λ (x : Record). x.event.post) is));
 }

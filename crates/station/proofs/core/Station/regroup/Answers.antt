@@ -14,8 +14,8 @@ returns-in-Merged g c = record {
       (λ q. e.clusters q ∙ ap (λ (x : Record). joined (clusters was) x.event.post x.partner.post q) d.record_is);
 }
 
-pub returns-in-default : goal.returns-in-default
-returns-in-default g c = record {
+pub returns-in_default : goal.returns-in_default
+returns-in_default g c = record {
   same = (refl, (refl, (refl, refl)));
-  grouped = λ R h b v ok d w. groups_same R _ h b ok c.args.self.now.partition w (λ m. c.in-default.not-Merged (d.outcome_is ∙ m));
+  grouped = λ R h b v ok d w. groups_same R _ h b ok c.args.self.now.partition w (λ m. c.in_default.not-Merged (d.outcome_is ∙ m));
 }

@@ -8,7 +8,7 @@ use Rattle.station.proofs.core.Station.vector.Goals as goal
 
 pub returns-in-Ok : goal.returns-in-Ok
 returns-in-Ok g c = record {
-  len = c.full-vector.ensures.len;
+  len = c.full_vector.ensures.len;
   full = λ h st inside held.
       let e = c.args.event in
       let read = c.in-Ok.ensures st.keeps in
@@ -17,7 +17,7 @@ returns-in-Ok g c = record {
         | inr k ↦
             let same = read ∙ read_cover _ _ _ _ h st e k in
             let is : c.in-Ok.cover.bits ≡ cover_at (g.P.Policy.rule c.args.self.now.policy) (g.K.Keeper.meaning c.args.self.now.keeper).posts h e.post e.number = cc in
-            c.full-vector.ensures.full h st (knows_from _ h e k) is
+            c.full_vector.ensures.full h st (knows_from _ h e k) is
       ];
 }
 
