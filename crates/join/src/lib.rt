@@ -76,7 +76,7 @@ impl<J: Join + Copy> Running<J> {
     }
 
     pub fn add(&mut self, value: J)
-        ensures { self.new.value ≡ join self.old.value value }
+        ensures { self.new.value ≡ J.join self.old.value value }
     {
         self.value = self.value.join(value);
     }
@@ -90,5 +90,5 @@ impl<J: Join + Copy> Running<J> {
 
 // The order and the repeats of what is joined make no difference.
 pub fn order_free<J: Join>()
-    ensures { OrderFree join }
+    ensures { OrderFree J.join }
 {}

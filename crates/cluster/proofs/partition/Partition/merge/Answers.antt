@@ -9,7 +9,7 @@ invariant_of-result c =
     let b = c.args.b in
     let both = c.union-both.result.bits in
     let j = both_clusters s a b c.cluster.result.bits c.cluster-2.result.bits both c.cluster.ensures c.cluster-2.ensures c.union-both.ensures.bits in
-    (s.few, (∣ merged_parted s a b both c.with_cluster.result j c.with_cluster.ensures ∣₁, tt))
+    record { few = s.few; parted = ∣ merged_parted s a b both c.with_cluster.result j c.with_cluster.ensures ∣₁ }
 
 pub returns : goal.returns
 returns c =

@@ -7,4 +7,4 @@ pub invariant_of-result : goal.invariant_of-result
 invariant_of-result c =
     let n = c.if-posts-le-MAX_POSTS.known in
     let few : n ≤ 64 = omega arith in
-    (few, (∣ parted_singles n (bits_at c.alone.result) (λ p l. c.alone.ensures p (omega arith)) ∣₁, tt))
+    record { few = few; parted = ∣ parted_singles n (bits_at c.alone.result) (λ p l. c.alone.ensures p (omega arith)) ∣₁ }
