@@ -1,9 +1,9 @@
 // How often messages were received from one post at another.
 ghost use Rattle.std.specs.Prelude.{◌≡◌, ℕ, ◌+◌, ◌-◌, ◌*◌, ◌^◌, ◌<◌, true, [], ◌∷◌, length};
-ghost use Rattle.cluster.specs.Clusters.{exchanges as exchanges-of};
+ghost use Rattle.cluster.specs.Clusters.{exchanges as exchanges_of};
 ghost use Rattle.cluster.specs.Counts.{Tells, capped, linked, noted, pair_sum, row_sum, told};
 ghost use Rattle.order.specs.History.{History};
-ghost use Rattle.order.specs.Records.{Bytes, partner_post, post as post-of, receives};
+ghost use Rattle.order.specs.Records.{Bytes, partner_post, post as post_of, receives};
 
 use order::posts::{MAX_POSTS, PostSet};
 
@@ -50,7 +50,7 @@ impl Exchanges {
     // Counts one more receive. Posts from 64 on are not counted.
     pub fn note(&mut self, receiver: u8, sender: u8)
         ensures counts { (p q : ℕ) → told self.new p q ≡ noted (told self.old) receiver sender p q }
-        ensures tells { (h : History) (r : Bytes) → Tells self.old h → receives r ≡ true → post-of r ≡ receiver → partner_post r ≡ sender → receiver < 64 → sender < 64 → length h < 2 ^ 32 - 1 → Tells self.new (r ∷ h) }
+        ensures tells { (h : History) (r : Bytes) → Tells self.old h → receives r ≡ true → post_of r ≡ receiver → partner_post r ≡ sender → receiver < 64 → sender < 64 → length h < 2 ^ 32 - 1 → Tells self.new (r ∷ h) }
     {
         if receiver < MAX_POSTS && sender < MAX_POSTS {
             let at = place(receiver, sender);
@@ -74,7 +74,7 @@ impl Exchanges {
     // The exchanges between two clusters, in both directions.
     pub fn between(&self, a: PostSet, b: PostSet) -> u32
         ensures sum { result ≡ capped (pair_sum (told self.now) a.bits b.bits) }
-        ensures exchanges { (h : History) → Tells self.now h → length h < 2 ^ 32 → result ≡ exchanges-of h a.bits b.bits }
+        ensures exchanges { (h : History) → Tells self.now h → length h < 2 ^ 32 → result ≡ exchanges_of h a.bits b.bits }
     {
         let mut sum: u32 = 0;
         for receiver in 0..MAX_POSTS {

@@ -25,7 +25,7 @@ ghost use Rattle.keeper.specs.Answers.{ask_stamp};
 ghost use Rattle.keeper.specs.Moves.{Appends, unmarked};
 ghost use Rattle.keeper.specs.Piles.{fresh, opened, stamp_of};
 ghost use Rattle.order.specs.Posts.{size};
-ghost use Rattle.order.specs.Records.{code as code_of_lem, kind_named};
+ghost use Rattle.order.specs.Records.{code as code_of, kind_named};
 
 use cells::{cell, pair, put_cell, word, write};
 use keeper::Keeper;
@@ -69,7 +69,7 @@ pub fn open<'a>(posts: u8, bytes: &'a mut [u8]) -> Columns<'a>
 
 // A kind's code, and the kind by its code.
 fn code(kind: Kind) -> u16
-    ensures { result ≡ code_of_lem kind }
+    ensures { result ≡ code_of kind }
 {
     match kind {
         Kind::Local => 0,

@@ -2,7 +2,7 @@
 #![tactic(auto)]
 
 ghost use Rattle.std.specs.Prelude.{◌≡◌, ◌≤◌, length, IfOk, string_bytes};
-ghost use Rattle.order.specs.Records.{number as number_of_lem, post as post-of};
+ghost use Rattle.order.specs.Records.{number as number_of, post as post_of};
 ghost use Rattle.report.specs.Lines.{printed, word};
 ghost use Rattle.report.specs.Reports.{Reported};
 
@@ -51,7 +51,7 @@ pub fn text(heap: Global, line: Line) -> Result<String, AllocError>
 // The line of a record of eight bytes that was taken.
 pub fn line_of(bytes: &[u8], taken: Taken) -> Line
     ensures answer { (result.outcome ≡ taken.outcome) × (result.entries ≡ taken.entries) }
-    ensures event { length bytes.now ≡ 8 → (result.post ≡ post-of bytes.now) × (result.number ≡ number_of_lem bytes.now) }
+    ensures event { length bytes.now ≡ 8 → (result.post ≡ post_of bytes.now) × (result.number ≡ number_of bytes.now) }
 {
     let mut post = 0;
     let mut number = 0;

@@ -17,7 +17,7 @@ pub fn run<P: Policy + Drop, K: Keeper + Drop>(
     answers: &mut [Answer],
 ) -> usize
     ensures count { result ≡ min (length turns.old) (length answers.old) }
-    ensures each { sound keeper → Each (rule policy) (meaning keeper) (calls result turns.old) (replies result turns.new answers.new) }
+    ensures each { K.sound keeper → Each (P.rule policy) (K.meaning keeper) (calls result turns.old) (replies result turns.new answers.new) }
     ensures rest { (drop result turns.new ≡ drop result turns.old) × (drop result answers.new ≡ drop result answers.old) }
 {
     let mut station = Station::open(policy, keeper);

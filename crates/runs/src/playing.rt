@@ -17,7 +17,7 @@ pub fn play<P: Policy + Drop, K: Keeper + Drop>(
     turn: &mut Turn,
 ) -> Answer
     ensures barred { station.old.barred ≡ true → (reply_of turn.new result ≡ refusal (call_of turn.old)) × (station.new ≡ station.old) }
-    ensures played { (h : History) → Stands rule sound meaning station.old h → Played rule sound meaning station.old station.new h (call_of turn.old) (reply_of turn.new result) }
+    ensures played { (h : History) → Stands P.rule K.sound K.meaning station.old h → Played P.rule K.sound K.meaning station.old station.new h (call_of turn.old) (reply_of turn.new result) }
     ensures arguments { call_of turn.new ≡ with_slice (call_of turn.old) (slice_of turn.new) }
 {
     match turn {

@@ -21,7 +21,7 @@ pub fn replay<P: Policy + Drop, K: Keeper + Drop>(
 ) -> usize
     ensures count { result ≡ min (length turns.old) (length answers.old) }
     ensures barred { station.old.barred ≡ true → (replies result turns.new answers.new ≡ map refusal (calls result turns.old)) × (station.new ≡ station.old) }
-    ensures played { (h : History) → Stands rule sound meaning station.old h → Replayed rule sound meaning station.old station.new h (calls result turns.old) (replies result turns.new answers.new) }
+    ensures played { (h : History) → Stands P.rule K.sound K.meaning station.old h → Replayed P.rule K.sound K.meaning station.old station.new h (calls result turns.old) (replies result turns.new answers.new) }
     ensures arguments { calls result turns.new ≡ with_slices (calls result turns.old) (take result turns.new) }
     ensures rest { (drop result turns.new ≡ drop result turns.old) × (drop result answers.new ≡ drop result answers.old) }
 {

@@ -16,7 +16,7 @@ use order::posts::PostSet;
 impl<P: Policy, K: Keeper> Station<P, K> {
     // A held event's full entry for a post: the kept one, else one that comes back with the whole vector.
     pub fn full_entry(&self, event: Event, post: u8) -> u16
-        ensures { (h : History) → Stands rule sound meaning self.now h → knows (meaning self.now.keeper).posts h event ≡ true → post < (meaning self.now.keeper).posts → result ≡ vec h event.post event.number post }
+        ensures { (h : History) → Stands P.rule K.sound K.meaning self.now h → knows (K.meaning self.now.keeper).posts h event ≡ true → post < (K.meaning self.now.keeper).posts → result ≡ vec h event.post event.number post }
     {
         match self.keeper.entry(event, post) {
             Ok(entry) => entry,
@@ -26,7 +26,7 @@ impl<P: Policy, K: Keeper> Station<P, K> {
 
     // Whether a held event precedes another.
     fn precedes(&self, event: Event, other: Event) -> bool
-        ensures { (h : History) → Stands rule sound meaning self.now h → knows (meaning self.now.keeper).posts h event ≡ true → knows (meaning self.now.keeper).posts h other ≡ true → result ≡ precedes h event other }
+        ensures { (h : History) → Stands P.rule K.sound K.meaning self.now h → knows (K.meaning self.now.keeper).posts h event ≡ true → knows (K.meaning self.now.keeper).posts h other ≡ true → result ≡ precedes h event other }
     {
         if event.post == other.post && event.number == other.number {
             return false;
@@ -37,7 +37,7 @@ impl<P: Policy, K: Keeper> Station<P, K> {
     // How the first of two events stands to the second.
     pub fn relate(&self, first: Event, second: Event) -> Result<Relation, AskFault>
         ensures barred { self.now.barred ≡ true → result ≡ Err Barred }
-        ensures answer { (h : History) → Stands rule sound meaning self.now h → result ≡ relates (meaning self.now.keeper).posts h first second }
+        ensures answer { (h : History) → Stands P.rule K.sound K.meaning self.now h → result ≡ relates (K.meaning self.now.keeper).posts h first second }
     {
         if self.barred {
             return Err(AskFault::Barred);
@@ -60,7 +60,7 @@ impl<P: Policy, K: Keeper> Station<P, K> {
     // How many events of a post are the named event or happened before it.
     pub fn reach(&self, event: Event, post: u8) -> Result<u16, AskFault>
         ensures barred { self.now.barred ≡ true → result ≡ Err Barred }
-        ensures answer { (h : History) → Stands rule sound meaning self.now h → result ≡ reaches (meaning self.now.keeper).posts h event post }
+        ensures answer { (h : History) → Stands P.rule K.sound K.meaning self.now h → result ≡ reaches (K.meaning self.now.keeper).posts h event post }
     {
         if self.barred {
             return Err(AskFault::Barred);
@@ -77,7 +77,7 @@ impl<P: Policy, K: Keeper> Station<P, K> {
     // The present cluster of a post.
     pub fn cluster(&self, post: u8) -> Result<PostSet, AskFault>
         ensures barred { self.now.barred ≡ true → result ≡ Err Barred }
-        ensures answer { (h : History) → Stands rule sound meaning self.now h → result ≡ clusters_at (rule self.now.policy) (meaning self.now.keeper).posts h post }
+        ensures answer { (h : History) → Stands P.rule K.sound K.meaning self.now h → result ≡ clusters_at (P.rule self.now.policy) (K.meaning self.now.keeper).posts h post }
     {
         if self.barred {
             return Err(AskFault::Barred);

@@ -1,7 +1,7 @@
 // Entering a stamp: the keeper and the exchanges, then the partition. Nothing changes before the append has succeeded.
 ghost use Rattle.std.specs.Prelude.{◌≡◌, ◌≤◌, ◌∷◌, MatchResult};
 ghost use Rattle.order.specs.History.{History, Valid, ground};
-ghost use Rattle.order.specs.Records.{Bytes, number as number_of_lem, post as post-of};
+ghost use Rattle.order.specs.Records.{Bytes, number as number_of, post as post_of};
 ghost use Rattle.cluster.specs.Rules.{Rule};
 ghost use Rattle.station.specs.Drafts.{Drafted};
 ghost use Rattle.station.specs.Entries.{Groups, Stamped, room_for};
@@ -19,7 +19,7 @@ impl<P: Policy + Drop, K: Keeper + Drop> Station<P, K> {
     // Keeps the stamp; then marks a receive's send and counts the exchange.
     pub fn keep(&mut self, draft: Draft) -> Result<(), KeeperFault>
         ensures same { (self.new.policy ≡ self.old.policy) × ((self.new.partition ≡ self.old.partition) × (self.new.barred ≡ self.old.barred)) }
-        ensures kept { (h : History) (b : Bytes) → Stands rule sound meaning self.old h → number_of_lem b ≤ 65535 → ground (meaning self.old.keeper).posts h b ≡ 0 → Drafted (rule self.old.policy) (meaning self.old.keeper).posts h b draft → sound self.new.keeper × (result ≡ room_for (rule self.old.policy) (meaning self.old.keeper).posts h b ((meaning self.old.keeper).space (post-of b))) × MatchResult result (λ _. Stamped (rule self.old.policy) (meaning self.old.keeper).posts h b (meaning self.old.keeper) (meaning self.new.keeper) self.new.exchanges) (λ _. (meaning self.new.keeper ≡ meaning self.old.keeper) × (self.new.exchanges ≡ self.old.exchanges)) }
+        ensures kept { (h : History) (b : Bytes) → Stands P.rule K.sound K.meaning self.old h → number_of b ≤ 65535 → ground (K.meaning self.old.keeper).posts h b ≡ 0 → Drafted (P.rule self.old.policy) (K.meaning self.old.keeper).posts h b draft → K.sound self.new.keeper × (result ≡ room_for (P.rule self.old.policy) (K.meaning self.old.keeper).posts h b ((K.meaning self.old.keeper).space (post_of b))) × MatchResult result (λ _. Stamped (P.rule self.old.policy) (K.meaning self.old.keeper).posts h b (K.meaning self.old.keeper) (K.meaning self.new.keeper) self.new.exchanges) (λ _. (K.meaning self.new.keeper ≡ K.meaning self.old.keeper) × (self.new.exchanges ≡ self.old.exchanges)) }
     {
         let post = draft.record.event.post;
         self.keeper

@@ -18,8 +18,8 @@ impl<P: Policy + Drop, K: Keeper + Drop> Station<P, K> {
     // Takes each record of a feed in order, up to the first that is refused, and says how many were taken.
     pub fn feed(&mut self, bytes: &[u8]) -> Result<usize, FeedFault>
         ensures barred { self.old.barred ≡ true → (result ≡ Err (Take 0 Barred)) × (self.new ≡ self.old) }
-        ensures ragged { (h : History) → Stands rule sound meaning self.old h → (length bytes.now % 8 ≢ 0) → (result ≡ Err Ragged) × (self.new ≡ self.old) }
-        ensures fed { (h : History) → Stands rule sound meaning self.old h → length bytes.now % 8 ≡ 0 → Fed rule sound meaning self.old self.new h bytes.now result }
+        ensures ragged { (h : History) → Stands P.rule K.sound K.meaning self.old h → (length bytes.now % 8 ≢ 0) → (result ≡ Err Ragged) × (self.new ≡ self.old) }
+        ensures fed { (h : History) → Stands P.rule K.sound K.meaning self.old h → length bytes.now % 8 ≡ 0 → Fed P.rule K.sound K.meaning self.old self.new h bytes.now result }
     {
         if self.barred {
             return Err(FeedFault::Take {
@@ -40,7 +40,7 @@ impl<P: Policy + Drop, K: Keeper + Drop> Station<P, K> {
 
     // Takes the record at a byte place of a feed.
     fn take_at(&mut self, bytes: &[u8], place: usize) -> Result<Taken, FeedFault>
-        ensures { (h : History) → Stands rule sound meaning self.old h → ((t : Result Taken TakeFault) × (result ≡ placed place t) × Took rule sound meaning self.old self.new h bytes.now t) }
+        ensures { (h : History) → Stands P.rule K.sound K.meaning self.old h → ((t : Result Taken TakeFault) × (result ≡ placed place t) × Took P.rule K.sound K.meaning self.old self.new h bytes.now t) }
     {
         match self.take(bytes) {
             Ok(taken) => Ok(taken),

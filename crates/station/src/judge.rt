@@ -15,7 +15,7 @@ use order::record::Record;
 impl<P: Policy, K: Keeper> Station<P, K> {
     // The record, if none of the grounds on its form, its number and its partner refuses it.
     pub fn judge(&self, bytes: &[u8]) -> Result<Record, TakeFault>
-        ensures { (h : History) → Stands rule sound meaning self.now h → result ≡ judged (meaning self.now.keeper).posts h bytes.now }
+        ensures { (h : History) → Stands P.rule K.sound K.meaning self.now h → result ≡ judged (K.meaning self.now.keeper).posts h bytes.now }
     {
         let record = Record::read(bytes, self.keeper.posts())?;
         if record.event.number as u32 != self.count(record.event.post) as u32 + 1 {
@@ -29,7 +29,7 @@ impl<P: Policy, K: Keeper> Station<P, K> {
 
     // Whether a receive may name this send.
     fn judge_partner(&self, send: Event) -> Result<(), TakeFault>
-        ensures { (h : History) (b : Bytes) → Stands rule sound meaning self.now h → partner b ≡ send → send.post < (meaning self.now.keeper).posts → result ≡ partner_judged h b }
+        ensures { (h : History) (b : Bytes) → Stands P.rule K.sound K.meaning self.now h → partner b ≡ send → send.post < (K.meaning self.now.keeper).posts → result ≡ partner_judged h b }
     {
         if !self.holds(send) {
             return Err(TakeFault::PartnerNotHeld);

@@ -2,7 +2,7 @@
 ghost use Rattle.std.specs.Prelude.{◌≡◌, ℕ, ◌<◌, true, ◌&&◌, length, IfOk, Ok, Err, nat_lt, slice_index};
 ghost use Rattle.order.specs.History.{History};
 ghost use Rattle.order.specs.Posts.{has};
-ghost use Rattle.station.specs.Asks.{farthest as farthest-of, hears, horizon_slice, horizons, listed, of_list, OrderFreeAnswers};
+ghost use Rattle.station.specs.Asks.{farthest as farthest_of, hears, horizon_slice, horizons, listed, of_list, OrderFreeAnswers};
 ghost use Rattle.station.specs.Drafts.{at};
 ghost use Rattle.station.specs.Stands.{Stands};
 ghost use Rattle.station.specs.declared.asks.AskFault.TheVariants.{Barred};
@@ -44,7 +44,7 @@ impl<P: Policy, K: Keeper> Station<P, K> {
     // Writes for each post the largest entry that one of the events has for it. A refusal leaves the slice.
     pub fn horizon(&self, events: &[Event], slice: &mut [u16]) -> Result<(), AskFault>
         ensures barred { self.now.barred ≡ true → (result ≡ Err Barred) × (slice.new ≡ slice.old) }
-        ensures answer { (h : History) → Stands rule sound meaning self.now h → (result ≡ horizons (meaning self.now.keeper).posts h events.now (length slice.old)) × (slice.new ≡ horizon_slice (meaning self.now.keeper).posts h events.now result slice.old) }
+        ensures answer { (h : History) → Stands P.rule K.sound K.meaning self.now h → (result ≡ horizons (K.meaning self.now.keeper).posts h events.now (length slice.old)) × (slice.new ≡ horizon_slice (K.meaning self.now.keeper).posts h events.now result slice.old) }
     {
         if self.barred {
             return Err(AskFault::Barred);
@@ -60,7 +60,7 @@ impl<P: Policy, K: Keeper> Station<P, K> {
     // The posts that one of the events has heard of.
     pub fn heard(&self, events: &[Event]) -> Result<PostSet, AskFault>
         ensures barred { self.now.barred ≡ true → result ≡ Err Barred }
-        ensures answer { (h : History) → Stands rule sound meaning self.now h → result ≡ hears (meaning self.now.keeper).posts h events.now }
+        ensures answer { (h : History) → Stands P.rule K.sound K.meaning self.now h → result ≡ hears (K.meaning self.now.keeper).posts h events.now }
     {
         if self.barred {
             return Err(AskFault::Barred);
@@ -80,7 +80,7 @@ impl<P: Policy, K: Keeper> Station<P, K> {
 
     // The larger entries of all the events.
     fn farthest(&self, events: &[Event]) -> Result<Vector, AskFault>
-        ensures { (h : History) → Stands rule sound meaning self.now h → (listed result ≡ listed (of_list (meaning self.now.keeper).posts h events.now (Ok (tt {0})))) × IfOk result (λ v. (q : ℕ) → at v q ≡ farthest-of h events.now q) }
+        ensures { (h : History) → Stands P.rule K.sound K.meaning self.now h → (listed result ≡ listed (of_list (K.meaning self.now.keeper).posts h events.now (Ok (tt {0})))) × IfOk result (λ v. (q : ℕ) → at v q ≡ farthest_of h events.now q) }
     {
         let Some(first) = events.first() else {
             return Err(AskFault::NoEvents);

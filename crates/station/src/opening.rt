@@ -11,8 +11,8 @@ use keeper::Keeper;
 
 // Whether a keeper holds a stamp.
 fn is_used<K: Keeper>(keeper: &K) -> bool
-    ensures free { sound keeper.now → result ≡ false → Unused (meaning keeper.now) }
-    ensures used { sound keeper.now → result ≡ true → ((p : ℕ) × (p < (meaning keeper.now).posts) × (0 < held_count (meaning keeper.now) p)) }
+    ensures free { K.sound keeper.now → result ≡ false → Unused (K.meaning keeper.now) }
+    ensures used { K.sound keeper.now → result ≡ true → ((p : ℕ) × (p < (K.meaning keeper.now).posts) × (0 < held_count (K.meaning keeper.now) p)) }
 {
     for post in 0..keeper.posts() {
         if let Ok(count) = keeper.count(post) {
@@ -28,8 +28,8 @@ impl<P: Policy, K: Keeper> Station<P, K> {
     // A station over an empty keeper. Over one that holds a stamp it refuses every call.
     pub fn open(policy: P, keeper: K) -> Station<P, K>
         ensures parts { (result.policy ≡ policy) × (result.keeper ≡ keeper) }
-        ensures stands { sound keeper → Unused (meaning keeper) → Stands rule sound meaning result [] }
-        ensures barred { sound keeper → (p : ℕ) → p < (meaning keeper).posts → 0 < held_count (meaning keeper) p → result.barred ≡ true }
+        ensures stands { K.sound keeper → Unused (K.meaning keeper) → Stands P.rule K.sound K.meaning result [] }
+        ensures barred { K.sound keeper → (p : ℕ) → p < (K.meaning keeper).posts → 0 < held_count (K.meaning keeper) p → result.barred ≡ true }
     {
         let barred = is_used(&keeper);
         let partition = Partition::open(keeper.posts());

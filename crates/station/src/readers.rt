@@ -12,7 +12,7 @@ use order::event::{Event, Kind};
 impl<P: Policy, K: Keeper> Station<P, K> {
     // How many events of a post are held.
     pub fn count(&self, post: u8) -> u16
-        ensures { (h : History) → Stands rule sound meaning self.now h → post < (meaning self.now.keeper).posts → result ≡ count_of h post }
+        ensures { (h : History) → Stands P.rule K.sound K.meaning self.now h → post < (K.meaning self.now.keeper).posts → result ≡ count_of h post }
     {
         match self.keeper.count(post) {
             Ok(count) => count,
@@ -21,7 +21,7 @@ impl<P: Policy, K: Keeper> Station<P, K> {
     }
 
     pub fn holds(&self, event: Event) -> bool
-        ensures { (h : History) → Stands rule sound meaning self.now h → result ≡ knows (meaning self.now.keeper).posts h event }
+        ensures { (h : History) → Stands P.rule K.sound K.meaning self.now h → result ≡ knows (K.meaning self.now.keeper).posts h event }
     {
         match self.keeper.kind(event) {
             Ok(_) => true,
@@ -31,7 +31,7 @@ impl<P: Policy, K: Keeper> Station<P, K> {
 
     // Whether a held event is a send.
     pub fn is_send(&self, event: Event) -> bool
-        ensures { (h : History) → Stands rule sound meaning self.now h → knows (meaning self.now.keeper).posts h event ≡ true → result ≡ (kind_at h event.post event.number == 1) }
+        ensures { (h : History) → Stands P.rule K.sound K.meaning self.now h → knows (K.meaning self.now.keeper).posts h event ≡ true → result ≡ (kind_at h event.post event.number == 1) }
     {
         match self.keeper.kind(event) {
             Ok(kind) => match kind {
@@ -45,7 +45,7 @@ impl<P: Policy, K: Keeper> Station<P, K> {
 
     // Whether a held send has been received.
     pub fn is_received(&self, event: Event) -> bool
-        ensures { (h : History) → Stands rule sound meaning self.now h → knows (meaning self.now.keeper).posts h event ≡ true → result ≡ received h event.post event.number }
+        ensures { (h : History) → Stands P.rule K.sound K.meaning self.now h → knows (K.meaning self.now.keeper).posts h event ≡ true → result ≡ received h event.post event.number }
     {
         match self.keeper.marked(event) {
             Ok(marked) => marked,

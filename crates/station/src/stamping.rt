@@ -1,10 +1,10 @@
 // The stamp that a record is to have.
 ghost use Rattle.std.specs.Prelude.{◌≡◌, ℕ, ◌∷◌, length};
-ghost use Rattle.cluster.specs.Clusters.{cover as cover-of, latest_full};
+ghost use Rattle.cluster.specs.Clusters.{cover as cover_of, latest_full};
 ghost use Rattle.order.specs.History.{History, ground};
 ghost use Rattle.order.specs.Posts.{size};
 ghost use Rattle.order.specs.Reads.{record_of};
-ghost use Rattle.order.specs.Records.{Bytes, number as number_of_lem, post as post-of};
+ghost use Rattle.order.specs.Records.{Bytes, number as number_of, post as post_of};
 ghost use Rattle.station.specs.Drafts.{CutTo, Drafted, Ruled};
 ghost use Rattle.station.specs.Stands.{Stands};
 
@@ -44,7 +44,7 @@ pub fn cut(vector: Vector, cover: PostSet) -> Cut
 impl<P: Policy, K: Keeper> Station<P, K> {
     // The self-organizing cluster rule: what becomes of the record, and the posts whose entries are kept of it.
     pub fn ruling(&self, record: Record) -> Ruling
-        ensures { (h : History) (b : Bytes) → Stands rule sound meaning self.now h → ground (meaning self.now.keeper).posts h b ≡ 0 → «record» ≡ record_of b → Ruled (rule self.now.policy) (meaning self.now.keeper).posts h b result }
+        ensures { (h : History) (b : Bytes) → Stands P.rule K.sound K.meaning self.now h → ground (K.meaning self.now.keeper).posts h b ≡ 0 → «record» ≡ record_of b → Ruled (P.rule self.now.policy) (K.meaning self.now.keeper).posts h b result }
     {
         let own = self.partition.cluster(record.event.post);
         let other = self.partition.cluster(record.partner.post);
@@ -65,7 +65,7 @@ impl<P: Policy, K: Keeper> Station<P, K> {
 
     // The number of the post's latest full event up to the one that a record reports next.
     pub fn next_full(&self, record: Record, cover: PostSet) -> u16
-        ensures { (h : History) (b : Bytes) → Stands rule sound meaning self.now h → ground (meaning self.now.keeper).posts h b ≡ 0 → «record» ≡ record_of b → cover.bits ≡ cover-of (rule self.now.policy) (meaning self.now.keeper).posts h b → result ≡ latest_full (rule self.now.policy) (meaning self.now.keeper).posts (b ∷ h) (post-of b) (number_of_lem b) }
+        ensures { (h : History) (b : Bytes) → Stands P.rule K.sound K.meaning self.now h → ground (K.meaning self.now.keeper).posts h b ≡ 0 → «record» ≡ record_of b → cover.bits ≡ cover_of (P.rule self.now.policy) (K.meaning self.now.keeper).posts h b → result ≡ latest_full (P.rule self.now.policy) (K.meaning self.now.keeper).posts (b ∷ h) (post_of b) (number_of b) }
     {
         if cover == PostSet::first(self.keeper.posts()) {
             return record.event.number;
@@ -81,7 +81,7 @@ impl<P: Policy, K: Keeper> Station<P, K> {
     }
 
     pub fn draft(&self, record: Record) -> Draft
-        ensures { (h : History) (b : Bytes) → Stands rule sound meaning self.now h → ground (meaning self.now.keeper).posts h b ≡ 0 → «record» ≡ record_of b → Drafted (rule self.now.policy) (meaning self.now.keeper).posts h b result }
+        ensures { (h : History) (b : Bytes) → Stands P.rule K.sound K.meaning self.now h → ground (K.meaning self.now.keeper).posts h b ≡ 0 → «record» ≡ record_of b → Drafted (P.rule self.now.policy) (K.meaning self.now.keeper).posts h b result }
     {
         let ruling = self.ruling(record);
         let full = self.next_full(record, ruling.cover);

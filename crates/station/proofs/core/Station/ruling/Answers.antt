@@ -9,7 +9,7 @@ use Rattle.order.specs.declared.posts.PostSet.{PostSet}
 use Rattle.std.proofs.lemmas.Bool.{cases_eq}
 use Rattle.station.proofs.StampReading.{answers, code_receive, first-all, read_cluster, receive_code, ruled_alone, ruled_within, ruled_merged, ruled_across, short}
 use Rattle.station.proofs.core.Station.ruling.Goals as goal
-use Rattle.station.proofs.core.Station.ruling.Goals.{in-Receive-false, in-Receive-false-2, in_default, in_default·2}
+use Rattle.station.proofs.core.Station.ruling.Goals.{in-Receive-false, in-Receive-false-2, in_default, in_default-2}
 
 pub returns : goal.returns
 returns g c h b st ok is =
@@ -23,22 +23,22 @@ returns g c h b st ok is =
           let other_is = read_cluster _ _ _ _ h st _ _ _ c.cluster-other.ensures (ap (λ (x : Record). x.partner.post) is) (facts.pair two).inside in
           ruled_merged _ _ h b _ _ own_is two (sym has_is ∙ sym w.in-Receive-false.ensures.value) _ other_is
           (answers (g.P.Policy.rule c.args.self.now.policy).says w.ask.ensures w.size_of.ensures w.size_of-else-same.ensures (w.between.ensures.exchanges h st.exchanged (short _ _ _ _ h st)) w.if-ask.true)
-          (ap (λ (x : Outcome × PostSet). x.0) w.outcome_is) (ap (λ (x : Outcome × PostSet). x.1.bits) w.outcome_is ∙ w.union.ensures.bits)
+          (ap (λ (x : Outcome × PostSet). x.0) w.outcome-is) (ap (λ (x : Outcome × PostSet). x.1.bits) w.outcome-is ∙ w.union.ensures.bits)
       | in-Receive-false-2 w ↦
           let two = code_receive (kind b) facts.known (sym kind_is ∙ w.in-Receive-false.is-0) in
           let other_is = read_cluster _ _ _ _ h st _ _ _ c.cluster-other.ensures (ap (λ (x : Record). x.partner.post) is) (facts.pair two).inside in
           ruled_across _ _ h b _ _ own_is two (sym has_is ∙ sym w.in-Receive-false.ensures.value) _ other_is
           (answers (g.P.Policy.rule c.args.self.now.policy).says w.ask.ensures w.size_of.ensures w.size_of-else-same.ensures (w.between.ensures.exchanges h st.exchanged (short _ _ _ _ h st)) w.if-ask.false)
-          (ap (λ (x : Outcome × PostSet). x.0) w.outcome_is)
-          (ap (λ (x : Outcome × PostSet). x.1.bits) w.outcome_is ∙ first-all _ _ _ st.few (c.posts.ensures.posts ∙ st.parts) c.first-all.ensures.bits)
+          (ap (λ (x : Outcome × PostSet). x.0) w.outcome-is)
+          (ap (λ (x : Outcome × PostSet). x.1.bits) w.outcome-is ∙ first-all _ _ _ st.few (c.posts.ensures.posts ∙ st.parts) c.first-all.ensures.bits)
       | in_default w ↦
-          let o = ap (λ (x : Outcome × PostSet). x.0) w.outcome_is in
-          let cv = ap (λ (x : Outcome × PostSet). x.1.bits) w.outcome_is in
+          let o = ap (λ (x : Outcome × PostSet). x.0) w.outcome-is in
+          let cv = ap (λ (x : Outcome × PostSet). x.1.bits) w.outcome-is in
           elim (cases_eq (kind b) 2) [
             | inl two ↦ ruled_within _ _ h b _ _ own_is two (sym has_is ∙ sym w.in_default.ensures.value) o cv
             | inr ne ↦ ruled_alone _ _ h b _ _ own_is ne o cv
           ]
-      | in_default·2 w ↦
+      | in_default-2 w ↦
           ruled_alone _ _ h b _ _ own_is (λ two. let e : c.args.«record».kind ≡ Receive = kind_is ∙ receive_code (kind b) two in search rules)
-          (ap (λ (x : Outcome × PostSet). x.0) w.outcome_is) (ap (λ (x : Outcome × PostSet). x.1.bits) w.outcome_is)
+          (ap (λ (x : Outcome × PostSet). x.0) w.outcome-is) (ap (λ (x : Outcome × PostSet). x.1.bits) w.outcome-is)
     ]
