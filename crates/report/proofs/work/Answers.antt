@@ -21,7 +21,7 @@ returns-in-Err g c = record { stops = omega (arith, c.loop-taken.invariant.0); p
 
 pub loop-taken-preserved : goal.loop-taken-preserved
 loop-taken-preserved g c =
-    let pushed = c.in_ok-push.ensures in (
+    let pushed = c.in_ok-push-in-Ok.ensures in (
       omega (arith, pushed.len, c.loop-taken.invariant.0),
       omega (
         arith,
