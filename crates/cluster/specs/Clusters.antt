@@ -1,5 +1,5 @@
 -- Clusters over a history: at first one post each, and changed only by merges of two.
-use Rattle.std.specs.Prelude.{ℕ, suc, ◌-◌, ◌^◌, Bool, true, false, cond, not, ◌&&◌, ◌||◌, [], ◌∷◌, ◌==◌, bit_or}
+use Rattle.std.specs.Prelude.{ℕ, suc, ◌-◌, ◌^◌, Bool, true, false, cond, ◌&&◌, ◌||◌, [], ◌∷◌, ◌==◌, bit_or}
 use Rattle.order.specs.History.{History, count}
 use Rattle.order.specs.Posts.{has, size}
 use Rattle.order.specs.Records.{Bytes, post, partner_post, receives}

@@ -1,5 +1,5 @@
 -- What is kept of each event, and how every entry comes back from what is kept.
-use Rattle.std.specs.Prelude.{ℕ, max, Bool, true, false, cond, List, [], ◌∷◌, map, ◌==◌}
+use Rattle.std.specs.Prelude.{ℕ, max, true, false, List, [], ◌∷◌, map, ◌==◌}
 use Rattle.keeper.specs.Piles.{Stamp, entry_of}
 use Rattle.order.specs.History.{History, kind_at, received}
 use Rattle.order.specs.Posts.{has, members}

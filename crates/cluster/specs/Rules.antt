@@ -1,5 +1,5 @@
 -- What a merge policy means.
-use Rattle.std.specs.Prelude.{◌≡◌, ℕ, ◌+◌, ◌*◌, ◌≤◌, min, max, Bool, true, false, cond, ◌&&◌, nat_le}
+use Rattle.std.specs.Prelude.{◌≡◌, ℕ, ◌+◌, ◌*◌, ◌≤◌, min, max, Bool, true, nat_le}
 
 -- A limit on the size of a cluster, and a yes or no for two cluster sizes and the number of exchanges between the
 -- two clusters. A yes keeps the limit.

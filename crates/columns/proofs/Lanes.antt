@@ -1,12 +1,10 @@
 -- Columns: what stays where cells stay, what an append adds, and what a mark changes.
-use Rattle.std.proofs.Common.{◌≡◌, ℕ, ◌+◌, ◌-◌, ◌*◌, ◌/◌, ◌%◌, ◌<◌, ◌≤◌, ◌⊎◌, List, [], ◌∷◌, ◌++◌, map, length, get_or, set, sym, refl, ap, ◌∙◌, subst, inl, inr, add-mul, arith}
-use Rattle.std.specs.List.{range_with_len}
+use Rattle.std.proofs.Common.{◌≡◌, ℕ, ◌+◌, ◌-◌, ◌*◌, ◌%◌, ◌<◌, ◌≤◌, List, [], ◌∷◌, ◌++◌, length, set, refl, ap, ◌∙◌, inl, inr, add-mul, arith}
 use Rattle.std.proofs.lemmas.Nat.{mul-le}
 use Rattle.std.proofs.lemmas.List.FromFn.{map-range_with_len_more}
 use Rattle.std.proofs.lemmas.Bool.{cases_eq, cases_lt}
 use Rattle.order.specs.Posts.{size}
 use Rattle.keeper.specs.Piles.{Stamp, with_mark}
-use Rattle.columns.specs.Cells.{pair_at, word_at}
 use Rattle.columns.specs.Layout.{stamp_at, place_at, end_at, stamp_cell, stamps_of, Stored, Placed}
 use Rattle.columns.specs.Sound.{Column, front_of}
 use Rattle.columns.proofs.Stamps.{counted_same, counted_set, stamp_same, stamp_marked}

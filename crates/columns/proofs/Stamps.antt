@@ -1,5 +1,5 @@
 -- One stamp in cells: it stays where its cells stay, a mark changes its first cell only, and what is put is what is read.
-use Rattle.std.proofs.Common.{◌≡◌, ℕ, ◌+◌, ◌-◌, ◌*◌, ◌/◌, ◌%◌, ◌<◌, ◌≤◌, Bool, true, false, eqb, ◌⊎◌, List, [], ◌∷◌, map, length, get_or, set, sym, refl, ap, ◌∙◌, subst, inl, inr, arith}
+use Rattle.std.proofs.Common.{◌≡◌, ℕ, ◌+◌, ◌/◌, ◌%◌, ◌<◌, ◌≤◌, Bool, false, eqb, List, [], ◌∷◌, map, length, get_or, set, sym, refl, ap, ◌∙◌, inl, inr, arith}
 use Rattle.std.specs.List.{range_with_len}
 use Rattle.std.proofs.lemmas.List.FromFn.{length-map-range_with_len, get_or-map-range_with_len, fill_by_all}
 use Rattle.std.proofs.lemmas.List.{same_lists, length-set, get_or-set_same, get_or-set_other}
@@ -11,7 +11,7 @@ use Rattle.order.specs.declared.event.Kind.TheVariants.{Local, Send, Receive}
 use Rattle.keeper.specs.Piles.{Stamp, with_mark}
 use Rattle.keeper.specs.Moves.{unmarked}
 use Rattle.keeper.specs.declared.admit.Header.{Header}
-use Rattle.columns.specs.Cells.{pair_at, word_at, Wrote}
+use Rattle.columns.specs.Cells.{word_at, Wrote}
 use Rattle.columns.specs.Layout.{stamp_at, Stored, Placed}
 
 -- ---- lists by a function of the index

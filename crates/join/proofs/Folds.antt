@@ -1,5 +1,5 @@
 -- Order and repeats make no difference to what a list joins to: proved once, from the law.
-use Rattle.std.proofs.Common.{◌≡◌, List, [], ◌∷◌, sym, refl, ap, ◌∙◌, subst}
+use Rattle.std.proofs.Common.{◌≡◌, List, [], ◌∷◌, sym, refl, ap, ◌∙◌}
 use Rattle.join.specs.Folds.{joined, In, SameValues}
 use Rattle.join.specs.Folds.In.{here, there}
 

@@ -1,5 +1,5 @@
 -- What a list of values joins to, and lists of the same values.
-use Rattle.std.specs.Prelude.{◌≡◌, ℕ, ◌↔◌, List, [], ◌∷◌}
+use Rattle.std.specs.Prelude.{◌≡◌, ◌↔◌, List, [], ◌∷◌}
 
 -- a value joined with each of a list
 unfoldable pub joined : {J : Type 0} → (J → J → J) → J → List J → J

@@ -1,5 +1,5 @@
 -- Which stamps a pile holds after an append and after a mark.
-use Rattle.std.proofs.Common.{◌≡◌, ℕ, ◌+◌, ◌-◌, ◌<◌, ◌≤◌, true, ltb, leb, List, [], ◌∷◌, ◌++◌, length, get_or, set, Ok, Result, sym, refl, ap, ◌∙◌, subst, inl, inr, arith}
+use Rattle.std.proofs.Common.{◌≡◌, ℕ, ◌+◌, ◌-◌, ◌<◌, ◌≤◌, ltb, leb, List, [], ◌∷◌, length, get_or, Ok, Result, sym, ap, ◌∙◌, subst, inl, inr, arith}
 use Rattle.keeper.specs.Answers.{of_stamp}
 use Rattle.keeper.specs.Moves.{Appended, Marked}
 use Rattle.keeper.specs.Piles.{Pile, Stamp, held_count, stamp_of, no_stamp, with_mark}

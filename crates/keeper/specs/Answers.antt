@@ -1,5 +1,5 @@
 -- What a keeper answers, by its meaning; the failures stand in the order in which they are looked for.
-use Rattle.std.specs.Prelude.{ℕ, Bool, true, false, cond, ◌&&◌, length, Ok, Err, Result, ◌==◌, nat_le, nat_lt}
+use Rattle.std.specs.Prelude.{ℕ, Bool, cond, ◌&&◌, length, Ok, Err, Result, ◌==◌, nat_le, nat_lt}
 use Rattle.order.specs.Posts.{has, below, size}
 use Rattle.order.specs.declared.event.Event.{Event}
 use Rattle.order.specs.declared.event.Kind.{Kind}

@@ -1,6 +1,5 @@
 // Layers over a keeper, each a keeper itself.
 #![tactic(auto)]
 
-
 pub mod quota;
 pub mod shelf;

@@ -1,7 +1,7 @@
 -- Chains against vectors, and the theorems on happened-before.
-use Rattle.std.proofs.Common.{◌≡◌, ℕ, suc, ◌<◌, ◌≤◌, min, true, false, eqb, ◌⊎◌, List, [], ◌∷◌, sym, refl, ap, ◌∙◌, subst, subst₂, inl, inr, ⊎_elim, arith}
+use Rattle.std.proofs.Common.{◌≡◌, ℕ, suc, ◌<◌, ◌≤◌, min, true, eqb, [], ◌∷◌, sym, refl, ap, ◌∙◌, subst, subst₂, inl, inr, arith}
 use Rattle.std.proofs.lemmas.Bool.{cases_eq, cases_lt, false≢true, or_cases, or_left, or_right, and_parts, and_from, eqb-true, eq-eqb, lt-ltb, le-leb, ltb-true, leb-true}
-use Rattle.order.specs.History.{History, Taken, TakenFrom, Held, Later, Delivered, Step, Chain, Reaches, Tally, Entry, Valid, Agree, count, kind_at, received, ground}
+use Rattle.order.specs.History.{History, Taken, TakenFrom, Held, Delivered, Step, Chain, Reaches, Tally, Entry, Valid, Agree, count, kind_at, received, ground}
 use Rattle.order.specs.History.Chain.{one, more}
 use Rattle.order.specs.History.Taken.{newest, earlier}
 use Rattle.order.specs.History.Tally.{none, counted, passed as skipped}
@@ -10,8 +10,8 @@ use Rattle.order.specs.Laws.{VectorCounts, NumberDecides, ChainsJoin, NoCycle, P
 use Rattle.order.specs.Records.{Bytes, post, kind, number, event, partner, partner_post, partner_number}
 use Rattle.order.specs.Vectors.{vec}
 use Rattle.order.specs.declared.event.Event.{Event}
-use Rattle.order.proofs.Held.{passed, count_none, count_own, count_other, count_grows, taken_number, held_number, find, holds, taken_once, kind_of_taken}
-use Rattle.order.proofs.Vectors.{At, at, vec_self, vec_old, vec_none, vec_closed, vec-count, vec_empty, vec_some, send_below, vec_own, vec_other, entry_from}
+use Rattle.order.proofs.Held.{passed, count_none, count_own, count_other, taken_number, held_number, find, holds, kind_of_taken}
+use Rattle.order.proofs.Vectors.{At, at, vec_self, vec_old, vec_closed, vec-count, vec_empty, vec_some, send_below, vec_own, entry_from}
 use Rattle.order.proofs.Vectors.At.{new, old}
 
 pub chain_join : ChainsJoin

@@ -1,8 +1,8 @@
 -- What the grounds leave, and events by their records and by their numbers.
-use Rattle.std.proofs.Common.{◌≡◌, ℕ, zero, suc, ◌+◌, ◌*◌, ◌<◌, ◌≤◌, Bool, true, false, cond, eqb, ◌⊎◌, List, [], ◌∷◌, length, sym, refl, ap, ◌∙◌, subst, subst₂, inl, inr, ⊎_elim, arith}
-use Rattle.std.proofs.lemmas.Bool.{cases_Bool, eq-eqb, ne_eqb, eqb-true, eqb-false, cond-true, cond-false, cases_eq, cases_lt, and_parts}
+use Rattle.std.proofs.Common.{◌≡◌, ℕ, zero, suc, ◌+◌, ◌*◌, ◌<◌, ◌≤◌, false, [], ◌∷◌, length, sym, refl, ap, ◌∙◌, subst, inl, inr, arith}
+use Rattle.std.proofs.lemmas.Bool.{cases_Bool, eq-eqb, ne_eqb, eqb-true, cond-true, cond-false, cases_eq, cases_lt, and_parts}
 use Rattle.std.proofs.lemmas.Bool.Decides.{nat_tests}
-use Rattle.order.specs.History.{History, Taken, TakenFrom, Held, Valid, count, kind_at, received, is_of, partner_ground, ground}
+use Rattle.order.specs.History.{History, Taken, Held, Valid, count, kind_at, received, is_of, partner_ground, ground}
 use Rattle.order.specs.History.Taken.{newest, earlier}
 use Rattle.order.specs.History.Valid.{start, taken}
 use Rattle.order.specs.Records.{Bytes, post, kind, number, event, partner_post, partner_number, form}

@@ -1,11 +1,11 @@
 -- The vectors of a history.
-use Rattle.std.proofs.Common.{◌≡◌, ℕ, suc, ◌<◌, ◌≤◌, max, Bool, true, false, cond, eqb, ◌⊎◌, List, [], ◌∷◌, sym, refl, ap, ◌∙◌, subst, subst₂, inl, inr, ⊎_elim, arith}
-use Rattle.std.proofs.lemmas.Bool.{cases_Bool, eq-eqb, ne_eqb, eqb-true, eqb-false, cond-true, cond-false, cases_eq, cases_lt, and_parts, and_from, and_right, and_left, true≢false, false≢true}
+use Rattle.std.proofs.Common.{◌≡◌, ℕ, suc, ◌<◌, ◌≤◌, max, Bool, true, false, eqb, ◌⊎◌, [], ◌∷◌, refl, ap, ◌∙◌, subst, subst₂, inl, inr, arith}
+use Rattle.std.proofs.lemmas.Bool.{eq-eqb, ne_eqb, cases_eq, cases_lt, and_from, and_right, true≢false, false≢true}
 use Rattle.order.specs.History.{History, Valid, count, ground}
 use Rattle.order.specs.History.Valid.{start, taken}
 use Rattle.order.specs.Records.{Bytes, post, kind, partner_post, partner_number, receives}
 use Rattle.order.specs.Vectors.{is_new, vec}
-use Rattle.order.proofs.Held.{Passed, passed, Partnered, count_own, count_other, count_grows}
+use Rattle.order.proofs.Held.{passed, count_own, count_other, count_grows}
 
 -- what a record brings to post q's entry from its send; nothing unless it is a receive
 unfoldable pub brought : Bytes → History → ℕ → ℕ

@@ -1,6 +1,6 @@
 -- A history is the list of the records that a station has taken, as bytes, the newest first.
 -- Held events, happened-before and the histories that a station can have are read from it alone.
-use Rattle.std.specs.Prelude.{◌≡◌, ℕ, suc, ◌<◌, Bool, true, false, cond, not, ◌&&◌, ◌||◌, ◌⊎◌, List, [], ◌∷◌, ◌==◌, nat_le, nat_lt}
+use Rattle.std.specs.Prelude.{◌≡◌, ℕ, suc, ◌<◌, Bool, false, cond, not, ◌&&◌, ◌||◌, ◌⊎◌, List, [], ◌∷◌, ◌==◌, nat_le, nat_lt}
 use Rattle.order.specs.Records.{Bytes, post, kind, number, event, partner, partner_post, partner_number, receives, form}
 use Rattle.order.specs.declared.event.Event.{Event}
 

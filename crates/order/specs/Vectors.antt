@@ -1,6 +1,6 @@
 -- The full vector of an event by the recursion of Fidge and Mattern: a post's own entry rises by one with each
 -- event, and a receive takes the larger of the entries of its post's preceding event and of its send.
-use Rattle.std.specs.Prelude.{ℕ, suc, max, Bool, true, false, cond, ◌&&◌, [], ◌∷◌, ◌==◌}
+use Rattle.std.specs.Prelude.{ℕ, suc, max, Bool, true, false, ◌&&◌, [], ◌∷◌, ◌==◌}
 use Rattle.order.specs.History.{History, count}
 use Rattle.order.specs.Records.{Bytes, post, partner_post, partner_number, receives}
 

@@ -1,13 +1,12 @@
 -- That a visit answers as it should, over the piles before and after each of its calls.
-use Rattle.std.proofs.Common.{◌≡◌, ℕ, ◌+◌, ◌-◌, ◌<◌, ◌≤◌, true, false, cond, eqb, List, [], length, IsErrAnd, Ok, Err, Result, sym, refl, ap, ◌∙◌, subst, inl, inr, arith}
+use Rattle.std.proofs.Common.{◌≡◌, ℕ, ◌+◌, ◌-◌, ◌≤◌, length, IsErrAnd, Ok, Err, Result, sym, refl, ap, ◌∙◌, subst, inl, inr, arith}
 use Rattle.keeper.proofs.Admitted.{admitted, answered}
 use Rattle.keeper.proofs.Stamps.{Holds, asked, count-append, holds_new, holds_append, holds_mark, holds_marked}
-use Rattle.keeper.specs.Answers.{admission, ask_append, ask_count, ask_space, ask_mark, ask_stamp}
-use Rattle.keeper.specs.Moves.{Appended, Appends, Marked, Marks, unmarked}
-use Rattle.keeper.specs.Piles.{Pile, Stamp, price, held_count, with_mark}
+use Rattle.keeper.specs.Answers.{admission, ask_count, ask_space, ask_stamp}
+use Rattle.keeper.specs.Moves.{Appended, Appends, Marked}
+use Rattle.keeper.specs.Piles.{Pile, Stamp, held_count, with_mark}
 use Rattle.keeper.specs.declared.fault.KeeperFault.{KeeperFault}
-use Rattle.order.specs.declared.event.Event.{Event}
-use Rattle.piles.specs.Visits.{Plan, stamp_for, cost, then, seen_of, put_of, whether, Puts, count_with, Left, report_of, report, Ready, Reports}
+use Rattle.piles.specs.Visits.{Plan, stamp_for, cost, then, seen_of, put_of, whether, Puts, count_with, Left, report_of, Ready, Reports}
 use Rattle.piles.specs.declared.Put.{Put}
 use Rattle.piles.specs.declared.Report.{Report}
 use Rattle.piles.specs.declared.Seen.{Seen}

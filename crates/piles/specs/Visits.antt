@@ -1,5 +1,5 @@
 -- What a visit to a pile answers.
-use Rattle.std.specs.Prelude.{◌≡◌, ℕ, ◌+◌, ◌-◌, ◌≤◌, Bool, true, false, cond, List, length, Ok, Err, Result, MatchResult, ◌==◌}
+use Rattle.std.specs.Prelude.{◌≡◌, ℕ, ◌+◌, ◌-◌, ◌≤◌, cond, List, length, Ok, Err, Result, MatchResult, ◌==◌}
 use Rattle.keeper.specs.Answers.{admission, ask_append}
 use Rattle.keeper.specs.Moves.{Appended, unmarked}
 use Rattle.keeper.specs.Piles.{Pile, Stamp, price, held_count, entry_of, with_mark}

@@ -1,5 +1,5 @@
 -- What the cells of a pool mean: stamps lie one after another from cell 0 on, and each carries its post.
-use Rattle.std.specs.Prelude.{◌≡◌, ℕ, zero, suc, ◌+◌, ◌-◌, ◌<◌, ◌≤◌, List, [], ◌++◌, map, length, replicate, sum, ◌==◌, slice_index}
+use Rattle.std.specs.Prelude.{◌≡◌, ℕ, zero, suc, ◌-◌, ◌<◌, ◌≤◌, List, [], ◌++◌, map, length, replicate, sum, ◌==◌, slice_index}
 use Rattle.order.specs.Posts.{kept}
 use Rattle.keeper.specs.Piles.{Pile}
 use Rattle.pool.specs.Layout.{post_at, link_at, stamp_at, past}

@@ -1,5 +1,5 @@
 -- What the stamps of some events cost, one event more.
-use Rattle.std.proofs.Common.{◌≡◌, ℕ, ◌+◌, ◌-◌, ◌^◌, min, List, [], ◌∷◌, ◌++◌, refl, arith}
+use Rattle.std.proofs.Common.{◌≡◌, ◌+◌, List, [], ◌∷◌, ◌++◌, refl, arith}
 use Rattle.keeper.specs.Piles.{price}
 use Rattle.report.specs.Reports.{cost}
 use Rattle.report.specs.declared.Line.{Line}

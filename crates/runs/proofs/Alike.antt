@@ -1,10 +1,9 @@
 -- Equal turns are answered alike, up to the first refusal for space.
-use Rattle.std.proofs.Common.{◌≡◌, ℕ, ◌*◌, ◌⊎◌, List, [], ◌∷◌, map, Ok, Err, Result, sym, refl, ap, ◌∙◌, subst, subst₂, inl, inr, arith}
+use Rattle.std.proofs.Common.{◌≡◌, ℕ, ◌*◌, ◌⊎◌, List, [], ◌∷◌, map, Ok, Err, Result, sym, refl, ap, subst, subst₂, inl, inr, arith}
 use Rattle.cluster.proofs.Clusters.{same_rule}
 use Rattle.cluster.specs.Rules.{Rule, SameRule}
-use Rattle.order.specs.History.{History, ground}
+use Rattle.order.specs.History.{History}
 use Rattle.order.specs.Records.{Bytes, post}
-use Rattle.station.specs.Faults.{take_ground}
 use Rattle.station.specs.Feeds.{Feeds}
 use Rattle.station.specs.Feeds.Feeds.{done, stops, goes}
 use Rattle.station.specs.Takes.{takes}

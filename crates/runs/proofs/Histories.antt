@@ -1,25 +1,23 @@
 -- The histories of a run: each is valid, and each turn keeps clusters.
-use Rattle.std.proofs.Common.{◌≡◌, ℕ, zero, suc, ◌+◌, ◌*◌, ◌/◌, ◌<◌, ◌≤◌, Bool, true, false, eqb, leb, ◌⊎◌, List, [], ◌∷◌, length, take as first, drop, Ok, Err, Result, sym, refl, ap, ◌∙◌, subst, inl, inr, arith}
-use Rattle.std.proofs.lemmas.Bool.{cases_Bool, eqb-true, eqb-false, leb-true, leb-false}
+use Rattle.std.proofs.Common.{◌≡◌, ℕ, zero, suc, ◌+◌, ◌/◌, ◌<◌, ◌≤◌, Bool, true, false, eqb, leb, List, [], ◌∷◌, length, take as first, drop, Ok, Err, Result, sym, refl, ap, subst, arith}
+use Rattle.std.proofs.lemmas.Bool.{eqb-true, eqb-false, leb-true, leb-false}
 use Rattle.cluster.specs.Clusters.{cluster as cluster_of, outcome, cover}
 use Rattle.cluster.specs.Laws.{LimitKept, TogetherStays}
 use Rattle.cluster.specs.Rules.{Rule}
 use Rattle.keeper.specs.Piles.{price}
 use Rattle.keeper.specs.declared.fault.KeeperFault.TheVariants.{NoSpace}
 use Rattle.order.specs.History.{History, Valid, ground}
-use Rattle.order.specs.History.Valid.{start, taken}
+use Rattle.order.specs.History.Valid.{taken}
 use Rattle.order.specs.Posts.{has, size}
 use Rattle.order.specs.Records.{Bytes, post}
 use Rattle.station.specs.Feeds.{Feeds, records, feed_records, taken_of, fed, after_feed}
 use Rattle.station.specs.Feeds.Feeds.{done, stops, goes}
 use Rattle.station.specs.Takes.{takes, after_take, refusal}
 use Rattle.station.specs.declared.faults.FeedFault.{FeedFault}
-use Rattle.station.specs.declared.faults.FeedFault.TheVariants.{Ragged, Take}
 use Rattle.station.specs.declared.faults.TakeFault.{TakeFault}
 use Rattle.station.specs.declared.faults.TakeFault.TheVariants.{Keeper}
 use Rattle.station.specs.declared.faults.Taken.{Taken}
 use Rattle.runs.specs.Calls.{Call, Reply, after}
-use Rattle.runs.specs.Calls.Reply.{fed as fed_by}
 use Rattle.runs.specs.Runs.{Says, ClustersKept, Run, Asked}
 use Rattle.runs.specs.Runs.Says.{takes_it, ragged, feeds_it, relates_them, reaches_it, writes_it, hears_them, clusters_it}
 use Rattle.runs.specs.Runs.Run.{end, turn}

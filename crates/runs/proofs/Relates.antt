@@ -1,17 +1,16 @@
 -- Relate answers what the chains say, so any two stations relate alike the events that both hold.
-use Rattle.std.proofs.Common.{◌≡◌, ℕ, ◌<◌, ◌≤◌, Bool, true, false, cond, not, ◌&&◌, eqb, ltb, leb, ◌⊎◌, ◌↔◌, List, [], ◌∷◌, map, Some, None, Ok, Err, Decides, Option, Result, sym, refl, ap, ◌∙◌, subst, ap₂, inl, inr, arith}
+use Rattle.std.proofs.Common.{◌≡◌, ℕ, ◌<◌, ◌≤◌, Bool, true, false, cond, leb, ◌↔◌, List, [], map, Some, None, Ok, Err, Decides, Option, Result, sym, refl, ap, ◌∙◌, subst, ap₂, inl, inr, arith}
 use Rattle.std.proofs.lemmas.Bool.{and_from, lt-ltb, le-leb, cond-true, false≢true}
 use Rattle.std.proofs.lemmas.Bool.Decides.{nat_tests, same_from_decides, Decides-eqb, Decides-and, Decides-not, Decides-like}
 use Rattle.cluster.specs.Rules.{Rule}
-use Rattle.order.specs.History.{History, Taken, Held, Chain, Reaches, Valid, Agree, held, count, ground}
+use Rattle.order.specs.History.{History, Taken, Held, Chain, Valid, Agree}
 use Rattle.order.specs.History.Taken.{newest, earlier}
 use Rattle.order.specs.History.Valid.{start, taken}
-use Rattle.order.specs.Records.{Bytes, post, event}
-use Rattle.order.specs.Vectors.{vec}
+use Rattle.order.specs.Records.{Bytes, post}
 use Rattle.order.specs.declared.event.Event.{Event}
 use Rattle.order.proofs.Chains.{number_decides, no_cycle, chain_join, histories_agree}
 use Rattle.order.proofs.Held.{passed, held_number}
-use Rattle.station.specs.Asks.{knows, missing, entry, precedes, relation, relates}
+use Rattle.station.specs.Asks.{knows, entry, precedes, relation, relates}
 use Rattle.station.specs.declared.asks.AskFault.{AskFault}
 use Rattle.station.specs.declared.asks.AskFault.TheVariants.{NotHeld}
 use Rattle.station.specs.declared.asks.Relation.{Relation}
@@ -23,7 +22,7 @@ use Rattle.runs.specs.Comparison.{ByChains, RelateAlike}
 use Rattle.runs.specs.Runs.{Says, Run, Asked}
 use Rattle.runs.specs.Runs.Asked.{here, later}
 use Rattle.runs.specs.Runs.Says.{relates_them}
-use Rattle.runs.proofs.Histories.{Turn, asked_turn}
+use Rattle.runs.proofs.Histories.{asked_turn}
 
 -- a held event's post is one of the station's
 taken_inside : {n : ℕ} {h : History} {r : Bytes} → Valid n h → Taken r h → post r < n

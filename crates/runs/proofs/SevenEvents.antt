@@ -1,5 +1,5 @@
 -- The seven-event shift, by computing.
-use Rattle.std.proofs.Common.{◌≡◌, ℕ, ◌+◌, ◌≤◌, true, List, [], ◌∷◌, sym, refl, subst, arith}
+use Rattle.std.proofs.Common.{ℕ, ◌+◌, ◌≤◌, [], ◌∷◌, sym, refl, subst, arith}
 use Rattle.std.proofs.lemmas.Bool.{leb-true}
 use Rattle.cluster.proofs.Clusters.{same_rule}
 use Rattle.cluster.specs.Clusters.{exchanges, cluster, cover_at, latest_full}

@@ -1,5 +1,5 @@
 -- Turns played one after the other: what holds of the first k.
-use Rattle.std.proofs.Common.{◌≡◌, ℕ, suc, ◌+◌, ◌<◌, true, List, [], ◌∷◌, ◌++◌, map, length, get_or, take, drop, set, sym, refl, ap, ◌∙◌, subst, ap₂, subst₂, add-zero, arith}
+use Rattle.std.proofs.Common.{◌≡◌, ℕ, ◌+◌, ◌<◌, true, List, [], ◌∷◌, ◌++◌, map, length, get_or, take, drop, set, sym, refl, ap, ◌∙◌, subst, ap₂, subst₂, add-zero, arith}
 use lib.Seq.{append_snoc}
 use Rattle.std.proofs.lemmas.List.{append-nil, length-map, length_push, length-set, length-take-le, map_more, map_push, take_more_set, drop-drop, drop-set-lt, get_or-drop}
 use Rattle.cluster.proofs.Clusters.{limit_kept, together_stays}

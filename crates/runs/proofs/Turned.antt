@@ -1,5 +1,5 @@
 -- One turn: what playing owes of it, for each call.
-use Rattle.std.proofs.Common.{◌≡◌, ℕ, ◌%◌, true, ◌⊎◌, List, [], length, Ok, Err, Result, sym, refl, ap, ◌∙◌, subst, ap₂, subst₂, inl, inr}
+use Rattle.std.proofs.Common.{◌≡◌, ℕ, ◌%◌, true, List, [], length, Err, Result, sym, refl, ap, subst, ap₂, subst₂, inl, inr}
 use Rattle.std.proofs.lemmas.Bool.{cases_eq}
 use Rattle.cluster.specs.Rules.{Rule}
 use Rattle.keeper.specs.Piles.{Pile}
@@ -9,7 +9,7 @@ use Rattle.order.specs.declared.event.Event.{Event}
 use Rattle.order.specs.declared.posts.PostSet.{PostSet}
 use Rattle.station.specs.Asks.{relates, reaches, horizons, horizon_slice, hears, clusters_at}
 use Rattle.station.specs.Stands.{Stands, Took, Fed}
-use Rattle.station.specs.Takes.{takes, Moves}
+use Rattle.station.specs.Takes.{Moves}
 use Rattle.station.specs.declared.asks.AskFault.{AskFault}
 use Rattle.station.specs.declared.asks.AskFault.TheVariants.{Barred as AskBarred}
 use Rattle.station.specs.declared.asks.Relation.{Relation}

@@ -1,5 +1,5 @@
 -- Calls with their arguments and what is answered, by contents.
-use Rattle.std.specs.Prelude.{◌≡◌, ℕ, List, Ok, Err, Result}
+use Rattle.std.specs.Prelude.{◌≡◌, ℕ, List, Err, Result}
 use Rattle.order.specs.History.{History}
 use Rattle.order.specs.Records.{Bytes}
 use Rattle.order.specs.declared.event.Event.{Event}

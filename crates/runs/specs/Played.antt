@@ -1,5 +1,5 @@
 -- What playing turns leaves, of a station that stands at a history.
-use Rattle.std.specs.Prelude.{◌≡◌, ℕ, List, [], ◌∷◌}
+use Rattle.std.specs.Prelude.{◌≡◌, List, [], ◌∷◌}
 use Rattle.cluster.specs.Rules.{Rule}
 use Rattle.keeper.specs.Piles.{Pile}
 use Rattle.order.specs.History.{History}

@@ -15,8 +15,6 @@ use Rattle.station.specs.Feeds.{Feeds, feed_records}
 use Rattle.station.specs.Takes.{takes, Moves}
 use Rattle.station.specs.declared.faults.FeedFault.{FeedFault}
 use Rattle.station.specs.declared.faults.FeedFault.TheVariants.{Ragged}
-use Rattle.station.specs.declared.faults.TakeFault.{TakeFault}
-use Rattle.station.specs.declared.faults.Taken.{Taken}
 
 -- What a station of n posts with this history and this space answers to a call, and how its space moves.
 pub data Says (P : Rule) (n : ℕ) (h : History) (was : ℕ → ℕ) : Call → Reply → (ℕ → ℕ) → Type 0 where

@@ -1,5 +1,5 @@
 -- The entry of a drafted stamp.
-use Rattle.std.proofs.Common.{◌≡◌, ℕ, suc, ◌+◌, ◌-◌, ◌<◌, ◌≤◌, min, Bool, true, false, cond, eqb, ltb, leb, ◌≢◌, List, [], ◌∷◌, ◌++◌, map, length, take, Ok, Err, Result, sym, refl, ap, ◌∙◌, subst, ap₂, subst₂, inl, inr, arith}
+use Rattle.std.proofs.Common.{◌≡◌, ℕ, suc, ◌<◌, ◌≤◌, min, true, false, cond, List, ◌∷◌, map, length, take, Ok, Err, Result, sym, refl, ap, ◌∙◌, subst, ap₂, inl, inr, arith}
 use lib.Bits.{bit_or}
 use Rattle.cluster.proofs.Clusters.{Ruled, ruled, cluster_same, cluster_merged, cluster_apart}
 use Rattle.cluster.proofs.Clusters.Ruled.{alone, within, merges, passes}
@@ -12,19 +12,18 @@ use Rattle.cluster.specs.Rules.{Rule}
 use Rattle.cluster.specs.Counts.{Tells}
 use Rattle.cluster.specs.declared.exchanges.Exchanges.{Exchanges}
 use Rattle.cluster.specs.declared.outcome.Outcome.{Outcome}
-use Rattle.cluster.specs.declared.outcome.Outcome.TheVariants.{Plain, Merged, Across}
+use Rattle.cluster.specs.declared.outcome.Outcome.TheVariants.{Merged}
 use Rattle.cluster.specs.declared.partition.Partition.{Partition}
-use Rattle.keeper.specs.Answers.{admission, ask_append, ask_mark, fits}
+use Rattle.keeper.specs.Answers.{ask_append, ask_mark, fits}
 use Rattle.keeper.specs.Moves.{Appended, Appends, Marked, Marks, unmarked}
-use Rattle.keeper.specs.Piles.{Pile, Stamp, held_count, price}
+use Rattle.keeper.specs.Piles.{Pile, held_count, price}
 use Rattle.keeper.specs.declared.fault.KeeperFault.{KeeperFault}
 use Rattle.order.proofs.Held.{Passed, passed, count_grows}
 use Rattle.order.proofs.PostSets.{length_below_le}
 use Rattle.order.specs.History.{History, Valid, count, ground}
 use Rattle.order.specs.Posts.{has, below, members, size}
-use Rattle.order.specs.Records.{Bytes, kind, kind_named, number, partner, partner_number, partner_post, post}
+use Rattle.order.specs.Records.{Bytes, kind, number, partner_number, partner_post, post}
 use Rattle.order.specs.Vectors.{vec}
-use Rattle.order.specs.declared.event.Event.{Event}
 use Rattle.order.specs.declared.«record».Record.{Record}
 use Rattle.std.proofs.lemmas.List.{length-map}
 use Rattle.std.proofs.lemmas.Result.{MatchResult-at_ok, MatchResult-at_err}

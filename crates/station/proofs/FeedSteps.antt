@@ -1,12 +1,12 @@
 -- A feed, record by record.
-use Rattle.std.proofs.Common.{◌≡◌, ℕ, zero, suc, ◌+◌, ◌-◌, ◌*◌, ◌/◌, ◌<◌, List, [], ◌∷◌, length, take, drop, Ok, Err, Result, sym, refl, ap, ◌∙◌, subst, ap₂, subst₂, arith}
+use Rattle.std.proofs.Common.{◌≡◌, ℕ, zero, suc, ◌+◌, ◌-◌, ◌*◌, ◌/◌, ◌<◌, List, ◌∷◌, length, take, drop, Ok, Err, Result, sym, refl, ap, ◌∙◌, subst, ap₂, subst₂, arith}
 use native.Mathlib.Nat.{sub-zero}
 use Rattle.cluster.specs.Rules.{Rule}
 use Rattle.keeper.specs.Piles.{Pile}
 use Rattle.order.specs.History.{History}
 use Rattle.order.specs.Records.{Bytes, post}
 use Rattle.std.proofs.lemmas.List.{drop-drop}
-use Rattle.station.specs.Feeds.{Feeds, records, feed_records, fed, placed}
+use Rattle.station.specs.Feeds.{Feeds, records, fed, placed}
 use Rattle.station.specs.Feeds.Feeds.{done, stops, goes}
 use Rattle.station.specs.Stands.{Stands, Took, Fed}
 use Rattle.station.specs.Takes.{takes}

@@ -1,5 +1,5 @@
 -- What a pile holds for a history, before and after an append and a mark.
-use Rattle.std.proofs.Common.{◌≡◌, ℕ, suc, ◌+◌, ◌-◌, ◌<◌, ◌≤◌, ◌≢◌, List, [], ◌∷◌, ◌++◌, length, get_or, set, sym, refl, ap, ◌∙◌, subst, subst₂, inl, inr, arith, length-append, length-set, get_or-set_other, get_or-set_same}
+use Rattle.std.proofs.Common.{◌≡◌, ℕ, suc, ◌-◌, ◌<◌, ◌≤◌, ◌≢◌, List, [], ◌∷◌, ◌++◌, length, get_or, set, sym, refl, ap, ◌∙◌, subst, subst₂, inl, inr, arith, length-append, length-set, get_or-set_other, get_or-set_same}
 use Rattle.cluster.proofs.Kept.{Names, kept_same, kept_marked}
 use Rattle.cluster.specs.Kept.{kept}
 use Rattle.cluster.specs.Rules.{Rule}

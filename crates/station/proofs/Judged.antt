@@ -1,15 +1,14 @@
 -- What is found of a record, ground by ground.
-use Rattle.std.proofs.Common.{◌≡◌, ℕ, suc, ◌+◌, ◌<◌, ◌≤◌, Bool, true, false, cond, eqb, ltb, leb, Ok, Err, Result, sym, refl, ap, ◌∙◌, subst, inl, inr, arith}
+use Rattle.std.proofs.Common.{◌≡◌, ℕ, suc, ◌+◌, ◌<◌, ◌≤◌, Bool, true, false, eqb, Ok, Err, Result, sym, refl, ap, ◌∙◌, inl, inr, arith}
 use Rattle.order.proofs.Forms.{Formed, formed}
 use Rattle.order.specs.History.{History, count, held, kind_at, received, ground, partner_ground}
 use Rattle.order.specs.Reads.{ground as ground_of, record_of}
-use Rattle.order.specs.Records.{Bytes, post, kind, number, partner, partner_post, partner_number, receives, form, kind_named}
+use Rattle.order.specs.Records.{Bytes, post, kind, number, partner_post, partner_number, form, kind_named}
 use Rattle.order.specs.declared.event.Kind.TheVariants.{Local, Send, Receive}
 use Rattle.order.specs.declared.«record».Record.{Record}
 use Rattle.order.specs.declared.«record».RecordFault.{RecordFault}
 use Rattle.order.specs.declared.«record».RecordFault.TheVariants.{WrongLength, UnknownKind, UnknownPost, StrayBytes, WrongPartner}
 use Rattle.std.proofs.lemmas.Bool.{eq-eqb, ne_eqb, eqb-true, cases_eq, cond-true, cond-false, not_from_true, not_from_false}
-use Rattle.std.proofs.lemmas.Bool.Decides.{nat_tests}
 use Rattle.station.specs.Takes.{judged, partner_judged, verdict, refusal}
 use Rattle.station.specs.declared.faults.TakeFault.{TakeFault}
 use Rattle.station.specs.declared.faults.TakeFault.TheVariants.{OutOfTurn, Record as IllFormed}

@@ -1,5 +1,5 @@
 -- A keeper with no stamps, and the station over it.
-use Rattle.std.proofs.Common.{◌≡◌, ℕ, ◌<◌, ◌≤◌, Bool, true, false, cond, [], Ok, Err, sym, refl, ap, ◌∙◌, subst, inl, inr, arith}
+use Rattle.std.proofs.Common.{◌≡◌, ℕ, ◌<◌, ◌≤◌, Bool, true, false, [], Ok, Err, sym, refl, ap, ◌∙◌, inl, inr, arith}
 use Rattle.cluster.proofs.Clusters.{cluster_start}
 use Rattle.cluster.specs.Partitions.{clusters, singles}
 use Rattle.cluster.specs.Rules.{Rule}

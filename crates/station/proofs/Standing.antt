@@ -1,5 +1,5 @@
 -- How a station stands after an entry.
-use Rattle.std.proofs.Common.{◌≡◌, ℕ, suc, ◌+◌, ◌<◌, ◌≤◌, Bool, true, false, cond, eqb, leb, List, [], ◌∷◌, get_or, Ok, Err, Result, sym, refl, ap, ◌∙◌, subst, subst₂, inl, inr, arith}
+use Rattle.std.proofs.Common.{◌≡◌, ℕ, ◌<◌, ◌≤◌, true, false, eqb, leb, ◌∷◌, get_or, Ok, Err, Result, sym, refl, ap, ◌∙◌, subst, subst₂, inl, inr, arith}
 use Rattle.cluster.specs.Clusters.{cover, outcome}
 use Rattle.cluster.specs.Rules.{Rule}
 use Rattle.cluster.specs.Counts.{Tells}
@@ -17,8 +17,8 @@ use Rattle.order.specs.declared.«record».Record.{Record}
 use Rattle.std.proofs.lemmas.Bool.{cases_Bool, cases_eq, cond-true, cond-false, eq-eqb}
 use Rattle.station.proofs.Reading.{stands_holds}
 use Rattle.station.specs.Entries.{Groups, Holds, Stamped, room_for}
-use Rattle.station.specs.Stands.{Stands, Took, Unchanged}
-use Rattle.station.specs.Takes.{takes, after_take, judged, refusal, verdict, Moves}
+use Rattle.station.specs.Stands.{Stands, Took}
+use Rattle.station.specs.Takes.{takes, judged, refusal, verdict, Moves}
 use Rattle.station.specs.declared.core.Station.{Station}
 use Rattle.station.specs.declared.faults.TakeFault.{TakeFault}
 use Rattle.station.specs.declared.faults.TakeFault.TheVariants.{Keeper}

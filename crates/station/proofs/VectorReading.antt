@@ -1,8 +1,8 @@
 -- Full vectors, read back from what a station keeps.
-use Rattle.std.proofs.Common.{◌≡◌, ℕ, zero, suc, ◌+◌, ◌-◌, ◌<◌, ◌≤◌, max, Bool, true, false, cond, ◌&&◌, eqb, ltb, leb, ◌⊎◌, List, [], ◌∷◌, length, get_or, set, replicate, Ok, Err, Result, sym, refl, ap, ◌∙◌, subst, ap₂, inl, inr, arith}
-use Rattle.cluster.proofs.Covers.{cover_at_posts, latest_full_most, latest_full_covers, latest_full_last, has_each, Source, source}
+use Rattle.std.proofs.Common.{◌≡◌, ℕ, zero, suc, ◌+◌, ◌-◌, ◌<◌, ◌≤◌, max, Bool, true, false, cond, ◌&&◌, ltb, ◌⊎◌, List, ◌∷◌, length, get_or, set, replicate, Ok, Err, Result, sym, refl, ap, ◌∙◌, subst, ap₂, inl, inr, arith}
+use Rattle.cluster.proofs.Covers.{cover_at_posts, latest_full_most, latest_full_covers, latest_full_last, has_each, source}
 use Rattle.cluster.proofs.Kept.{kept-cover, kept_entry}
-use Rattle.cluster.specs.Clusters.{all, cover_at, latest_full}
+use Rattle.cluster.specs.Clusters.{cover_at, latest_full}
 use Rattle.cluster.specs.Kept.{kept}
 use Rattle.cluster.specs.Rules.{Rule}
 use Rattle.keeper.specs.Answers.{ask_stamp, ask_cover, ask_full, ask_entry}

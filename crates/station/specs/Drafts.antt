@@ -1,5 +1,5 @@
 -- What is decided of a record that no ground on its form, number or partner refuses.
-use Rattle.std.specs.Prelude.{◌≡◌, ℕ, ◌≤◌, max, cond, ◌∷◌, map, length, take, slice_index}
+use Rattle.std.specs.Prelude.{◌≡◌, ℕ, max, cond, ◌∷◌, map, length, take, slice_index}
 use Rattle.cluster.specs.Clusters.{outcome, cover, latest_full}
 use Rattle.cluster.specs.Rules.{Rule}
 use Rattle.join.specs.declared.vector.Vector.{Vector}

@@ -1,5 +1,5 @@
 -- What the entry of a stamp answers and leaves.
-use Rattle.std.specs.Prelude.{◌≡◌, ℕ, ◌<◌, ◌≤◌, Bool, true, false, cond, ◌∷◌, Ok, Err, Result, nat_le}
+use Rattle.std.specs.Prelude.{◌≡◌, ℕ, ◌<◌, ◌≤◌, cond, ◌∷◌, Ok, Err, Result, nat_le}
 use Rattle.cluster.specs.Clusters.{cluster, cover}
 use Rattle.cluster.specs.Kept.{kept}
 use Rattle.cluster.specs.Partitions.{clusters}

@@ -1,5 +1,5 @@
 -- What a take answers, and what it leaves, by the history, the policy's meaning and the space of the record's post.
-use Rattle.std.specs.Prelude.{◌≡◌, ℕ, ◌+◌, ◌≤◌, Bool, true, false, cond, ◌∷◌, Ok, Err, Result, ◌==◌, nat_le}
+use Rattle.std.specs.Prelude.{◌≡◌, ℕ, ◌+◌, ◌≤◌, true, false, cond, ◌∷◌, Ok, Err, Result, ◌==◌, nat_le}
 use Rattle.cluster.specs.Clusters.{outcome, cover}
 use Rattle.cluster.specs.Rules.{Rule}
 use Rattle.keeper.specs.Piles.{price}

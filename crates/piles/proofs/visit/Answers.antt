@@ -1,5 +1,3 @@
-use Rattle.std.proofs.Common.{◌≡◌}
-use Rattle.keeper.proofs.Stamps.{Holds}
 use Rattle.piles.proofs.Visiting.{first_refused, second_refused, both, told, never, second_kept, exit}
 use Rattle.piles.proofs.visit.Goals as goal
 use Rattle.piles.specs.Visits.{plan, stamp_for, seen_of, Reports}

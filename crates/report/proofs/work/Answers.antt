@@ -1,4 +1,4 @@
-use Rattle.std.proofs.Common.{◌≡◌, ℕ, ◌-◌, ◌^◌, min, List, [], ◌∷◌, ◌++◌, vec_items, sym, refl, ap, ◌∙◌, arith, rules}
+use Rattle.std.proofs.Common.{◌≡◌, ◌-◌, ◌^◌, min, List, [], vec_items, ap, arith, rules}
 use Rattle.report.proofs.Costs.{cost_none, cost_push}
 use Rattle.report.proofs.work.Goals as goal
 use Rattle.report.specs.Reports.{cost}

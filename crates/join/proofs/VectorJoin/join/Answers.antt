@@ -1,7 +1,6 @@
-use Rattle.std.proofs.Common.{◌≡◌, ℕ, ◌<◌, ◌≤◌, max, ◌≢◌, List, length, get_or, sym, ap, ◌∙◌, arith, length-set, get_or-set_other, get_or-set_same, rules, below_more}
+use Rattle.std.proofs.Common.{◌≡◌, ℕ, ◌<◌, max, ◌≢◌, List, length, get_or, ap, ◌∙◌, arith, length-set, get_or-set_other, get_or-set_same, rules, below_more}
 use Rattle.join.specs.JoinsLemmas.{larger_by}
 use Rattle.join.proofs.VectorJoin.join.Goals as goal
-use Rattle.join.specs.declared.vector.Vector.{Vector}
 
 pub loop-i-init : goal.loop-i-init
 loop-i-init c = (search rules, λ k l. absurd (omega arith), λ k l. search rules)

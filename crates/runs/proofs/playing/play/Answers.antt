@@ -1,6 +1,6 @@
-use Rattle.std.proofs.Common.{◌≡◌, ℕ, List, ◌++◌, length, take as first, drop, vec_items, sym, refl, ap, ◌∙◌, ap₂}
+use Rattle.std.proofs.Common.{◌≡◌, ◌++◌, length, take as first, drop, sym, refl, ap, ◌∙◌, ap₂}
 use Rattle.std.proofs.lemmas.List.{take_at}
-use Rattle.runs.specs.Calls.Call.{take, feed, relate, reach, horizon, heard, cluster}
+use Rattle.runs.specs.Calls.Call.{take, feed, horizon, heard}
 use Rattle.runs.specs.Views.{call_of}
 use Rattle.runs.proofs.Turned.{plays_as, plays_take, plays_feed, plays_relate, plays_reach, plays_horizon, plays_heard, plays_cluster}
 use Rattle.runs.proofs.playing.play.Goals as goal

@@ -1,5 +1,5 @@
 use Rattle.std.proofs.Common.{◌≡◌, ℕ, ◌<◌, length, subst, arith}
-use Rattle.runs.proofs.Sofar.{Sofar, sofar_none, sofar_more, goes_run}
+use Rattle.runs.proofs.Sofar.{Sofar, sofar_more, goes_run}
 use Rattle.runs.proofs.replaying.replay.Goals as goal
 
 pub loop-place-preserved : goal.loop-place-preserved

@@ -1,4 +1,4 @@
-use Rattle.std.proofs.Common.{◌+◌, sym, subst, arith}
+use Rattle.std.proofs.Common.{◌+◌, sym, subst}
 use Rattle.order.specs.declared.posts.PostSet.{PostSet}
 use Rattle.station.proofs.Farthest.{Above, above_none, above_with, above_without}
 use Rattle.station.proofs.lists.posts_of.Goals as goal

@@ -1,4 +1,4 @@
-use Rattle.std.proofs.Common.{◌≡◌, ℕ, ◌-◌, ◌^◌, min, sym, ap, arith}
+use Rattle.std.proofs.Common.{◌≡◌, ℕ, ◌-◌, ◌^◌, min, ap, arith}
 use Rattle.std.proofs.lemmas.Nat.{one_shl}
 use Rattle.order.proofs.PostSets.{has_all, has_first}
 use Rattle.order.proofs.posts.PostSet.first.Goals as goal

@@ -1,4 +1,4 @@
-use Rattle.std.proofs.Common.{◌≡◌, ap, ◌∙◌}
+use Rattle.std.proofs.Common.{ap, ◌∙◌}
 use Rattle.order.specs.Posts.{size}
 use Rattle.order.specs.declared.«record».Record.{Record}
 use Rattle.station.proofs.StampReading.{entries_known}

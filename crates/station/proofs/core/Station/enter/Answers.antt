@@ -1,6 +1,5 @@
-use Rattle.std.proofs.Common.{◌≡◌, ℕ, ◌∷◌, Err, sym, refl, ap, ◌∙◌, subst, subst₂}
+use Rattle.std.proofs.Common.{◌≡◌, ℕ, ◌∷◌, Err, sym, ap, ◌∙◌, subst, subst₂}
 use Rattle.cluster.specs.declared.partition.Partition.{Partition}
-use Rattle.keeper.specs.Piles.{Pile}
 use Rattle.order.specs.History.{Valid, ground}
 use Rattle.std.proofs.lemmas.Result.{MatchResult-at_err, MatchResult-at_ok, err_from_is_err_and}
 use Rattle.station.proofs.Standing.{took_entered, took_refused}

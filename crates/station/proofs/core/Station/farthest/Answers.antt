@@ -1,4 +1,4 @@
-use Rattle.std.proofs.Common.{◌≡◌, max, length, Ok, sym, refl, ap, ◌∙◌}
+use Rattle.std.proofs.Common.{max, length, Ok, sym, refl, ap, ◌∙◌}
 use Rattle.join.specs.JoinsLemmas.{get_or_larger, length_larger}
 use Rattle.join.specs.declared.vector.Vector.{Vector}
 use Rattle.station.proofs.Farthest.{first_held, list_none, list_some, missing_here, missing_more, missing_none, reaches_all, reaches_first, reaches_more}

@@ -1,4 +1,4 @@
-use Rattle.std.proofs.Common.{◌≡◌, ◌/◌, length}
+use Rattle.std.proofs.Common.{◌/◌, length}
 use Rattle.order.specs.History.{History}
 use Rattle.station.proofs.FeedSteps.{Going}
 use Rattle.station.proofs.core.Station.feed.Given as goal

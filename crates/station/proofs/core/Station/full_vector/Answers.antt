@@ -1,6 +1,6 @@
-use Rattle.std.proofs.Common.{◌≡◌, ℕ, ◌+◌, ◌<◌, ◌≤◌, true, cond, length, sym, ap, ◌∙◌, subst, arith}
+use Rattle.std.proofs.Common.{ℕ, ◌+◌, ◌≤◌, cond, length, sym, ap, ◌∙◌, subst, arith}
 use Rattle.cluster.proofs.Covers.{cover_at_posts}
-use Rattle.cluster.specs.Clusters.{cover_at, latest_full}
+use Rattle.cluster.specs.Clusters.{latest_full}
 use Rattle.join.specs.JoinsLemmas.{get_or_larger, length_larger}
 use Rattle.join.specs.declared.Running.{Running}
 use Rattle.join.specs.declared.vector.Vector.{Vector}

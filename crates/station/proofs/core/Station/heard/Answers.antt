@@ -1,4 +1,4 @@
-use Rattle.std.proofs.Common.{◌≡◌, ℕ, ◌+◌, Ok, sym, refl, ap, ◌∙◌, subst}
+use Rattle.std.proofs.Common.{ℕ, ◌+◌, Ok, sym, refl, ap, ◌∙◌, subst}
 use Rattle.order.specs.declared.posts.PostSet.{PostSet}
 use Rattle.station.proofs.Farthest.{Hears, first_held, hears-all, hears_first, hears_more, list_none, list_some, missing_here, missing_more, missing_none}
 use Rattle.station.proofs.Reading.{known}

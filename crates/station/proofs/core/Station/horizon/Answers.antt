@@ -1,4 +1,4 @@
-use Rattle.std.proofs.Common.{◌≡◌, ℕ, length, sym, ◌∙◌, arith}
+use Rattle.std.proofs.Common.{◌≡◌, length, sym, ◌∙◌, arith}
 use Rattle.station.proofs.Farthest.{listed_none}
 use Rattle.station.proofs.core.Station.horizon.Goals as goal
 use Rattle.std.proofs.lemmas.List.FromFn.{fill_by_all}

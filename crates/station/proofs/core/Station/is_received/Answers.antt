@@ -1,4 +1,4 @@
-use Rattle.std.proofs.Common.{◌≡◌, Ok, ap, ◌∙◌}
+use Rattle.std.proofs.Common.{Ok, ◌∙◌}
 use Rattle.cluster.specs.Kept.{kept}
 use Rattle.station.proofs.Reading.{asked, known}
 use Rattle.station.proofs.core.Station.is_received.Goals as goal

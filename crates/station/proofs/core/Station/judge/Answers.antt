@@ -1,8 +1,7 @@
-use Rattle.std.proofs.Common.{◌≡◌, sym, refl, ap, ◌∙◌}
-use Rattle.order.specs.Records.{partner}
+use Rattle.std.proofs.Common.{sym, ap, ◌∙◌}
 use Rattle.order.specs.declared.«record».Record.{Record}
 use Rattle.std.proofs.lemmas.Result.{err_from_is_err_and}
-use Rattle.station.proofs.Judged.{read_refused, inside, out_of_turn, partner_inside, partner_refuses, partner_accepts, no_receive}
+use Rattle.station.proofs.Judged.{read_refused, out_of_turn, partner_inside, partner_refuses, partner_accepts, no_receive}
 use Rattle.station.proofs.core.Station.judge.Goals as goal
 
 pub returns-in_err-record : goal.returns-in_err-record

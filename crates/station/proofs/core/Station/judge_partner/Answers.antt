@@ -1,8 +1,8 @@
-use Rattle.std.proofs.Common.{◌≡◌, ℕ, ◌<◌, Bool, true, false, eqb, sym, ap, ◌∙◌, subst}
-use Rattle.order.specs.History.{History, held, kind_at, received}
+use Rattle.std.proofs.Common.{◌≡◌, ℕ, true, false, eqb, sym, ap, ◌∙◌, subst}
+use Rattle.order.specs.History.{held, kind_at, received}
 use Rattle.order.specs.declared.event.Event.{Event}
 use Rattle.station.proofs.Judged.{ground_9, ground_10, ground_11, ground_0}
-use Rattle.station.proofs.Reading.{known, held_known, not_held}
+use Rattle.station.proofs.Reading.{held_known, not_held}
 use Rattle.station.proofs.core.Station.judge_partner.Goals as goal
 use Rattle.station.specs.Takes.{verdict}
 

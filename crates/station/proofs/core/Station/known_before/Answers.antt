@@ -1,4 +1,4 @@
-use Rattle.std.proofs.Common.{◌≡◌, ℕ, max, length, sym, ap, ◌∙◌, ap₂, arith}
+use Rattle.std.proofs.Common.{ℕ, max, length, sym, ap, ◌∙◌, ap₂, arith}
 use Rattle.join.specs.JoinsLemmas.{get_or_larger, length_larger}
 use Rattle.join.specs.declared.vector.Vector.{Vector}
 use Rattle.order.specs.Records.{kind, kind_named, receives, partner_post, partner_number}

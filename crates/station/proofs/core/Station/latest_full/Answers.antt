@@ -1,4 +1,4 @@
-use Rattle.std.proofs.Common.{◌≡◌, Ok, sym, ap, ◌∙◌, inl, inr}
+use Rattle.std.proofs.Common.{Ok, sym, ap, ◌∙◌, inl, inr}
 use Rattle.cluster.proofs.Covers.{latest_full_zero}
 use Rattle.cluster.specs.Clusters.{latest_full}
 use Rattle.order.specs.declared.event.Event.{Event}

@@ -1,4 +1,4 @@
-use Rattle.std.proofs.Common.{◌≡◌, ℕ, ◌<◌, Bool, true, ◌&&◌, ltb, sym, ap, ◌∙◌, arith}
+use Rattle.std.proofs.Common.{◌≡◌, ℕ, ◌<◌, ◌&&◌, ltb, sym, ap, ◌∙◌, arith}
 use Rattle.order.specs.Posts.{has}
 use Rattle.std.proofs.lemmas.Bool.{and_parts, ltb-true}
 use Rattle.station.proofs.Reading.{knows_from}

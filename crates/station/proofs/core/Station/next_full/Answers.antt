@@ -1,4 +1,4 @@
-use Rattle.std.proofs.Common.{◌≡◌, ◌-◌, Ok, Err, sym, refl, ap, ◌∙◌}
+use Rattle.std.proofs.Common.{◌-◌, Ok, Err, sym, ap, ◌∙◌}
 use Rattle.order.specs.declared.«record».Record.{Record}
 use Rattle.std.proofs.lemmas.Bool.{false≢true, eq-eqb, eqb-true}
 use Rattle.station.proofs.StampReading.{first-all, next_full_here, next_full_before}

@@ -1,4 +1,4 @@
-use Rattle.std.proofs.Common.{◌≡◌, ℕ, get_or, set, sym, ap, ◌∙◌, ap₂, arith}
+use Rattle.std.proofs.Common.{ℕ, get_or, set, ap, ◌∙◌, ap₂, arith}
 use Rattle.order.proofs.Held.{passed}
 use Rattle.order.specs.declared.«record».Record.{Record}
 use Rattle.std.proofs.lemmas.List.{length-set}

@@ -1,4 +1,4 @@
-use Rattle.std.proofs.Common.{◌≡◌, sym, refl}
+use Rattle.std.proofs.Common.{sym, refl}
 use Rattle.station.proofs.Opened.{found_none, found_some, stands_opened}
 use Rattle.station.proofs.core.Station.open.Goals as goal
 

@@ -1,4 +1,4 @@
-use Rattle.std.proofs.Common.{◌≡◌, ℕ, sym, refl, ap, ◌∙◌, subst₂}
+use Rattle.std.proofs.Common.{sym, refl, ap, ◌∙◌}
 use Rattle.cluster.specs.Partitions.{clusters, joined}
 use Rattle.order.specs.declared.«record».Record.{Record}
 use Rattle.station.proofs.Entered.{groups_merged, groups_same}

@@ -1,4 +1,4 @@
-use Rattle.std.proofs.Common.{◌≡◌, sym, refl, ap, ◌∙◌, inl, inr, rules}
+use Rattle.std.proofs.Common.{◌≡◌, sym, ap, ◌∙◌, inl, inr, rules}
 use Rattle.cluster.specs.declared.outcome.Outcome.{Outcome}
 use Rattle.order.proofs.Held.{passed}
 use Rattle.order.specs.Posts.{has}
