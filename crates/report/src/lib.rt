@@ -11,8 +11,8 @@ use cluster::policy::Policy;
 use keeper::Keeper;
 use keeper::admit::price;
 use order::record::RECORD_LEN;
-use station::core::Station;
 use station::faults::{FeedFault, Taken};
+use station::state::Station;
 use std::alloc::{AllocError, Global};
 
 pub mod input;

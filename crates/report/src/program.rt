@@ -2,7 +2,7 @@
 use super::input::fill;
 use super::{text, work};
 use cluster::policy::FirstContact;
-use station::core::Station;
+use station::state::Station;
 
 // How much of the input is taken, and what the station has.
 const MOST: usize = 65_536;

@@ -4,7 +4,7 @@ use Rattle.std.proofs.lemmas.Bool.{cases_eq}
 use Rattle.cluster.specs.Rules.{Rule}
 use Rattle.keeper.specs.Piles.{Pile, held_count, fresh}
 use Rattle.station.specs.Stands.{Unused}
-use Rattle.station.specs.declared.core.Station.{Station}
+use Rattle.station.specs.declared.state.Station.{Station}
 use Rattle.runs.specs.Calls.{Call, Reply, barred}
 use Rattle.runs.specs.Comparison.{RelateAlike, AlikeUntilSpace, Used, Each, OpenedAlike, Compared}
 use Rattle.runs.specs.Runs.{Run}

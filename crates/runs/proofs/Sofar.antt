@@ -7,7 +7,7 @@ use Rattle.cluster.specs.Rules.{Rule}
 use Rattle.keeper.specs.Piles.{Pile}
 use Rattle.order.specs.History.{History}
 use Rattle.station.specs.Stands.{Stands}
-use Rattle.station.specs.declared.core.Station.{Station}
+use Rattle.station.specs.declared.state.Station.{Station}
 use Rattle.runs.specs.Calls.{Call, Reply, after, barred as refusal}
 use Rattle.runs.specs.Played.{Played, Replayed, after_all}
 use Rattle.runs.specs.Runs.{Says, Run, ClustersKept}

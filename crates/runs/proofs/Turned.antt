@@ -13,7 +13,7 @@ use Rattle.station.specs.Takes.{Moves}
 use Rattle.station.specs.declared.asks.AskFault.{AskFault}
 use Rattle.station.specs.declared.asks.AskFault.TheVariants.{Barred as AskBarred}
 use Rattle.station.specs.declared.asks.Relation.{Relation}
-use Rattle.station.specs.declared.core.Station.{Station}
+use Rattle.station.specs.declared.state.Station.{Station}
 use Rattle.station.specs.declared.faults.FeedFault.{FeedFault}
 use Rattle.station.specs.declared.faults.FeedFault.TheVariants.{Ragged, Take}
 use Rattle.station.specs.declared.faults.TakeFault.{TakeFault}

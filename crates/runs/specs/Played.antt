@@ -6,7 +6,7 @@ use Rattle.order.specs.History.{History}
 use Rattle.runs.specs.Calls.{Call, Reply, after}
 use Rattle.runs.specs.Runs.{Says, Run}
 use Rattle.station.specs.Stands.{Stands}
-use Rattle.station.specs.declared.core.Station.{Station}
+use Rattle.station.specs.declared.state.Station.{Station}
 
 -- after one turn
 pub record Played {P K : Type 0} (rule : P → Rule) (sound : K → Type 0) (meaning : K → Pile) (was is : Station P K) (h : History) (c : Call) (a : Reply) : Type 0 where

@@ -7,7 +7,7 @@ use super::replaying::replay;
 use super::turns::{Answer, Turn};
 use cluster::policy::Policy;
 use keeper::Keeper;
-use station::core::Station;
+use station::state::Station;
 
 // Opens a station and plays turns on it; answers how many.
 pub fn run<P: Policy + Drop, K: Keeper + Drop>(

@@ -9,7 +9,7 @@ ghost use Rattle.station.specs.Stands.{Stands};
 use super::turns::{Answer, Turn};
 use cluster::policy::Policy;
 use keeper::Keeper;
-use station::core::Station;
+use station::state::Station;
 
 // Makes one turn's call.
 pub fn play<P: Policy + Drop, K: Keeper + Drop>(

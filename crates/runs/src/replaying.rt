@@ -10,7 +10,7 @@ use super::playing::play;
 use super::turns::{Answer, Turn};
 use cluster::policy::Policy;
 use keeper::Keeper;
-use station::core::Station;
+use station::state::Station;
 
 // Makes as many of the turns as there are places for answers, in order, and says how many. It takes no memory, so
 // it cannot stop early.

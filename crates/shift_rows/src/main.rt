@@ -2,7 +2,7 @@
 #![tactic(auto)]
 
 use cluster::policy::FirstContact;
-use station::core::Station;
+use station::state::Station;
 
 const SHIFT: [u8; 56] = [
     0, 1, 0, 1, 0, 0, 0, 0, 1, 2, 0, 1, 0, 0, 0, 1, 1, 1, 0, 2, 0, 0, 0, 0, 2, 2, 0, 1, 1, 0, 0, 2,

@@ -10,7 +10,7 @@ use Rattle.station.specs.Feeds.{Feeds, records, fed, placed}
 use Rattle.station.specs.Feeds.Feeds.{done, stops, goes}
 use Rattle.station.specs.Stands.{Stands, Took, Fed}
 use Rattle.station.specs.Takes.{takes}
-use Rattle.station.specs.declared.core.Station.{Station}
+use Rattle.station.specs.declared.state.Station.{Station}
 use Rattle.station.specs.declared.faults.FeedFault.{FeedFault}
 use Rattle.station.specs.declared.faults.FeedFault.TheVariants.{Take}
 use Rattle.station.specs.declared.faults.TakeFault.{TakeFault}

@@ -12,7 +12,7 @@ use Rattle.order.specs.History.Valid.{start}
 use Rattle.std.proofs.lemmas.Bool.{cases_Bool, cond-true, lt-ltb, le-leb}
 use Rattle.station.proofs.Standing.{stands_by}
 use Rattle.station.specs.Stands.{Stands, Unused}
-use Rattle.station.specs.declared.core.Station.{Station}
+use Rattle.station.specs.declared.state.Station.{Station}
 
 -- The count of a known post is answered.
 

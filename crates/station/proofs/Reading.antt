@@ -20,7 +20,7 @@ use Rattle.std.proofs.lemmas.Bool.{and_parts, and_from, cond-true, cond-false, c
 use Rattle.station.specs.Asks.{knows}
 use Rattle.station.specs.Entries.{Holds}
 use Rattle.station.specs.Stands.{Stands}
-use Rattle.station.specs.declared.core.Station.{Station}
+use Rattle.station.specs.declared.state.Station.{Station}
 
 -- what it is to hold an event
 pub record Known (n : ℕ) (h : History) (e : Event) : Type 0 where

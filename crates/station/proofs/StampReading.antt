@@ -28,7 +28,7 @@ use Rattle.std.proofs.lemmas.Bool.{and_left, cases_eq, cond-true, cond-false, eq
 use Rattle.station.proofs.Reading.{asked}
 use Rattle.station.specs.Drafts.{Ruled, at}
 use Rattle.station.specs.Stands.{Stands}
-use Rattle.station.specs.declared.core.Station.{Station}
+use Rattle.station.specs.declared.state.Station.{Station}
 use Rattle.station.specs.declared.drafts.Ruling.{Ruling}
 
 -- ---- cutting a vector

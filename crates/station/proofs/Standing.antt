@@ -19,7 +19,7 @@ use Rattle.station.proofs.Reading.{stands_holds}
 use Rattle.station.specs.Entries.{Groups, Holds, Stamped, room_for}
 use Rattle.station.specs.Stands.{Stands, Took}
 use Rattle.station.specs.Takes.{takes, judged, refusal, verdict, Moves}
-use Rattle.station.specs.declared.core.Station.{Station}
+use Rattle.station.specs.declared.state.Station.{Station}
 use Rattle.station.specs.declared.faults.TakeFault.{TakeFault}
 use Rattle.station.specs.declared.faults.TakeFault.TheVariants.{Keeper}
 use Rattle.station.specs.declared.faults.Taken.{Taken}

@@ -26,7 +26,7 @@ use Rattle.std.proofs.lemmas.Bool.{and_from, and_left, and_right, cond-true, con
 use Rattle.station.proofs.Reading.{Known, asked}
 use Rattle.station.specs.Drafts.{known_before}
 use Rattle.station.specs.Stands.{Stands}
-use Rattle.station.specs.declared.core.Station.{Station}
+use Rattle.station.specs.declared.state.Station.{Station}
 
 -- ---- posts that are not a kiln's
 

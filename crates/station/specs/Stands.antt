@@ -13,7 +13,7 @@ use Rattle.station.specs.Takes.{takes, after_take, Moves}
 use Rattle.station.specs.declared.faults.FeedFault.{FeedFault}
 use Rattle.station.specs.declared.faults.TakeFault.{TakeFault}
 use Rattle.station.specs.declared.faults.Taken.{Taken}
-use Rattle.station.specs.declared.core.Station.{Station}
+use Rattle.station.specs.declared.state.Station.{Station}
 
 -- rule, sound and meaning are those of the policy's and the keeper's type
 pub record Stands {P K : Type 0} (rule : P → Rule) (sound : K → Type 0) (meaning : K → Pile) (s : Station P K) (h : History) : Type 0 where

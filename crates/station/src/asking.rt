@@ -7,7 +7,7 @@ ghost use Rattle.station.specs.Stands.{Stands};
 ghost use Rattle.station.specs.declared.asks.AskFault.TheVariants.{Barred};
 
 use super::asks::{AskFault, Relation};
-use super::core::Station;
+use super::state::Station;
 use cluster::policy::Policy;
 use keeper::Keeper;
 use order::event::Event;

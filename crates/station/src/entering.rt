@@ -7,8 +7,8 @@ ghost use Rattle.station.specs.Drafts.{Drafted};
 ghost use Rattle.station.specs.Entries.{Groups, Stamped, room_for};
 ghost use Rattle.station.specs.Stands.{Stands};
 
-use super::core::Station;
 use super::drafts::Draft;
+use super::state::Station;
 use cluster::outcome::Outcome;
 use cluster::policy::Policy;
 use keeper::Keeper;

@@ -8,8 +8,8 @@ ghost use Rattle.station.specs.declared.faults.TakeFault.TheVariants.{Barred};
 ghost use Rattle.station.specs.declared.faults.TakeFault.{TakeFault};
 ghost use Rattle.station.specs.declared.faults.Taken.{Taken};
 
-use super::core::Station;
 use super::faults::{FeedFault, TakeFault, Taken};
+use super::state::Station;
 use cluster::policy::Policy;
 use keeper::Keeper;
 use order::record::RECORD_LEN;

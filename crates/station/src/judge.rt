@@ -5,8 +5,8 @@ ghost use Rattle.order.specs.Records.{Bytes, partner};
 ghost use Rattle.station.specs.Stands.{Stands};
 ghost use Rattle.station.specs.Takes.{judged, partner_judged};
 
-use super::core::Station;
 use super::faults::TakeFault;
+use super::state::Station;
 use cluster::policy::Policy;
 use keeper::Keeper;
 use order::event::{Event, Kind};

@@ -3,7 +3,6 @@
 
 mod asking;
 pub mod asks;
-pub mod core;
 pub mod drafts;
 mod entering;
 pub mod faults;
@@ -13,5 +12,6 @@ pub mod lists;
 mod opening;
 mod readers;
 mod stamping;
+pub mod state;
 mod taking;
 mod vectors;

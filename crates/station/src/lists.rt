@@ -8,7 +8,7 @@ ghost use Rattle.station.specs.Stands.{Stands};
 ghost use Rattle.station.specs.declared.asks.AskFault.TheVariants.{Barred};
 
 use super::asks::AskFault;
-use super::core::Station;
+use super::state::Station;
 use cluster::policy::Policy;
 use join::vector::Vector;
 use join::{Join, Running};

@@ -3,7 +3,7 @@ ghost use Rattle.std.specs.Prelude.{◌≡◌, ℕ, ◌<◌, true, false, []};
 ghost use Rattle.keeper.specs.Piles.{held_count};
 ghost use Rattle.station.specs.Stands.{Stands, Unused};
 
-use super::core::Station;
+use super::state::Station;
 use cluster::exchanges::Exchanges;
 use cluster::partition::Partition;
 use cluster::policy::Policy;

@@ -4,7 +4,7 @@ ghost use Rattle.order.specs.History.{History, count as count_of, kind_at, recei
 ghost use Rattle.station.specs.Asks.{knows};
 ghost use Rattle.station.specs.Stands.{Stands};
 
-use super::core::Station;
+use super::state::Station;
 use cluster::policy::Policy;
 use keeper::Keeper;
 use order::event::{Event, Kind};

@@ -8,8 +8,8 @@ ghost use Rattle.order.specs.Records.{Bytes, number as number_of, post as post_o
 ghost use Rattle.station.specs.Drafts.{CutTo, Drafted, Ruled};
 ghost use Rattle.station.specs.Stands.{Stands};
 
-use super::core::Station;
 use super::drafts::{Cut, Draft, Ruling};
+use super::state::Station;
 use cluster::outcome::Outcome;
 use cluster::policy::Policy;
 use join::vector::Vector;

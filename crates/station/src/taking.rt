@@ -6,9 +6,9 @@ ghost use Rattle.station.specs.Drafts.{Drafted};
 ghost use Rattle.station.specs.Stands.{Stands, Took};
 ghost use Rattle.station.specs.declared.faults.TakeFault.TheVariants.{Barred};
 
-use super::core::Station;
 use super::drafts::Draft;
 use super::faults::{TakeFault, Taken};
+use super::state::Station;
 use cluster::policy::Policy;
 use keeper::Keeper;
 

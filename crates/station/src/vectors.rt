@@ -10,7 +10,7 @@ ghost use Rattle.station.specs.Asks.{knows};
 ghost use Rattle.station.specs.Drafts.{at, known_before};
 ghost use Rattle.station.specs.Stands.{Stands};
 
-use super::core::Station;
+use super::state::Station;
 use cluster::policy::Policy;
 use join::vector::Vector;
 use join::{Join, Running};

@@ -5,7 +5,7 @@ use layers::quota::Quota;
 use layers::shelf::Shelf;
 use order::event::Event;
 use station::asks::Relation;
-use station::core::Station;
+use station::state::Station;
 use std::process::Abort;
 use std::test::Fail;
 
