@@ -1,37 +1,77 @@
 -- What is found of a record, ground by ground.
-use Rattle.std.proofs.Common.{◌≡◌, ℕ, suc, ◌+◌, ◌<◌, ◌≤◌, Bool, true, false, eqb, Ok, Err, Result, sym, refl, ap, ◌∙◌, inl, inr, arith}
+use Rattle.std.proofs.Common.{◌≡◌, ℕ, suc, ◌+◌, ◌<◌, ◌≤◌, Bool, true, false, eqb, Ok, Err, Result, sym, refl, ap, ◌∙◌, subst, inl, inr, arith}
 use Rattle.order.proofs.Forms.{Formed, formed}
 use Rattle.order.specs.History.{History, count, held, kind_at, received, ground, partner_ground}
 use Rattle.order.specs.Reads.{ground as ground_of, record_of}
-use Rattle.order.specs.Records.{Bytes, post, kind, number, partner_post, partner_number, form, kind_named}
+use Rattle.order.specs.Records.{Bytes, post, kind, number, partner, partner_post, partner_number, form, kind_named}
+use Rattle.order.specs.declared.event.Event.{Event}
 use Rattle.order.specs.declared.event.Kind.TheVariants.{Local, Send, Receive}
 use Rattle.order.specs.declared.«record».Record.{Record}
 use Rattle.order.specs.declared.«record».RecordFault.{RecordFault}
 use Rattle.order.specs.declared.«record».RecordFault.TheVariants.{WrongLength, UnknownKind, UnknownPost, StrayBytes, WrongPartner}
 use Rattle.std.proofs.lemmas.Bool.{eq-eqb, ne_eqb, eqb-true, cases_eq, cond-true, cond-false, not_from_true, not_from_false}
+use Rattle.station.proofs.Reading.{held_known, not_held}
+use Rattle.station.specs.Asks.{knows}
 use Rattle.station.specs.Takes.{judged, partner_judged, verdict, refusal}
 use Rattle.station.specs.declared.faults.TakeFault.{TakeFault}
-use Rattle.station.specs.declared.faults.TakeFault.TheVariants.{OutOfTurn, Record as IllFormed}
+use Rattle.station.specs.declared.faults.TakeFault.TheVariants.{AlreadyReceived, OutOfTurn, PartnerNotHeld, PartnerNotSend, Record as IllFormed}
 
 -- The ground of a receive's partner.
 
-pub ground_9 : (h : History) (r : Bytes) → held h (partner_post r) (partner_number r) ≡ false → partner_ground h r ≡ 9
+ground_9 : (h : History) (r : Bytes) → held h (partner_post r) (partner_number r) ≡ false → partner_ground h r ≡ 9
 unfolding partner_ground
 ground_9 h r e = cond-true _ _ _ (not_from_false _ e)
 
-pub ground_10 : (h : History) (r : Bytes) → held h (partner_post r) (partner_number r) ≡ true → eqb (kind_at h (partner_post r) (partner_number r)) 1 ≡ false → partner_ground h r ≡ 10
+ground_10 : (h : History) (r : Bytes) → held h (partner_post r) (partner_number r) ≡ true → eqb (kind_at h (partner_post r) (partner_number r)) 1 ≡ false → partner_ground h r ≡ 10
 unfolding partner_ground
 ground_10 h r e f = cond-false _ _ _ (not_from_true _ e) ∙ cond-true _ _ _ (not_from_false _ f)
 
-pub ground_11 : (h : History) (r : Bytes) → held h (partner_post r) (partner_number r) ≡ true → eqb (kind_at h (partner_post r) (partner_number r)) 1 ≡ true
+ground_11 : (h : History) (r : Bytes) → held h (partner_post r) (partner_number r) ≡ true → eqb (kind_at h (partner_post r) (partner_number r)) 1 ≡ true
     → received h (partner_post r) (partner_number r) ≡ true → partner_ground h r ≡ 11
 unfolding partner_ground
 ground_11 h r e f x = cond-false _ _ _ (not_from_true _ e) ∙ cond-false _ _ _ (not_from_true _ f) ∙ cond-true _ _ _ x
 
-pub ground_0 : (h : History) (r : Bytes) → held h (partner_post r) (partner_number r) ≡ true → eqb (kind_at h (partner_post r) (partner_number r)) 1 ≡ true
+ground_0 : (h : History) (r : Bytes) → held h (partner_post r) (partner_number r) ≡ true → eqb (kind_at h (partner_post r) (partner_number r)) 1 ≡ true
     → received h (partner_post r) (partner_number r) ≡ false → partner_ground h r ≡ 0
 unfolding partner_ground
 ground_0 h r e f x = cond-false _ _ _ (not_from_true _ e) ∙ cond-false _ _ _ (not_from_true _ f) ∙ cond-false _ _ _ x
+
+-- What is found of a partner by its name.
+
+-- what is known of an event by its name is known of a partner
+at : (b : Event → Type 0) {x y : Event} → x ≡ y → b y → b x
+at b e t = subst b (sym e) t
+
+found : (h : History) (r : Bytes) (g : ℕ) → partner_ground h r ≡ g → verdict g tt ≡ partner_judged h r
+found h r g e = sym (ap (λ (x : ℕ). verdict x tt) e)
+
+pub partner_missing : (n : ℕ) (h : History) (r : Bytes) (e : Event) → partner r ≡ e → e.post < n → knows n h e ≡ false → Err PartnerNotHeld ≡ partner_judged h r
+unfolding verdict
+partner_missing n h r e named inside none =
+    found h r 9 (ground_9 h r (at (λ (e : Event). held h e.post e.number ≡ false) named (not_held n h e inside none)))
+
+pub partner_no_send : (n : ℕ) (h : History) (r : Bytes) (e : Event) → partner r ≡ e → knows n h e ≡ true → eqb (kind_at h e.post e.number) 1 ≡ false
+    → Err PartnerNotSend ≡ partner_judged h r
+unfolding verdict
+partner_no_send n h r e named there other = found h r 10 (ground_10 h r
+    (at (λ (e : Event). held h e.post e.number ≡ true) named (held_known n h e there))
+    (at (λ (e : Event). eqb (kind_at h e.post e.number) 1 ≡ false) named other))
+
+pub partner_received : (n : ℕ) (h : History) (r : Bytes) (e : Event) → partner r ≡ e → knows n h e ≡ true → eqb (kind_at h e.post e.number) 1 ≡ true
+    → received h e.post e.number ≡ true → Err AlreadyReceived ≡ partner_judged h r
+unfolding verdict
+partner_received n h r e named there send gone = found h r 11 (ground_11 h r
+    (at (λ (e : Event). held h e.post e.number ≡ true) named (held_known n h e there))
+    (at (λ (e : Event). eqb (kind_at h e.post e.number) 1 ≡ true) named send)
+    (at (λ (e : Event). received h e.post e.number ≡ true) named gone))
+
+pub partner_fresh : (n : ℕ) (h : History) (r : Bytes) (e : Event) → partner r ≡ e → knows n h e ≡ true → eqb (kind_at h e.post e.number) 1 ≡ true
+    → received h e.post e.number ≡ false → Ok tt ≡ partner_judged h r
+unfolding verdict
+partner_fresh n h r e named there send fresh = found h r 0 (ground_0 h r
+    (at (λ (e : Event). held h e.post e.number ≡ true) named (held_known n h e there))
+    (at (λ (e : Event). eqb (kind_at h e.post e.number) 1 ≡ true) named send)
+    (at (λ (e : Event). received h e.post e.number ≡ false) named fresh))
 
 -- The ground of a record.
 

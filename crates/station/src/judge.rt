@@ -28,6 +28,7 @@ impl<P: Policy, K: Keeper> Station<P, K> {
     }
 
     // Whether a receive may name this send.
+    #[tactic(auto, using(crate::proofs::Judged::partner_missing, crate::proofs::Judged::partner_no_send, crate::proofs::Judged::partner_received, crate::proofs::Judged::partner_fresh))]
     fn judge_partner(&self, send: Event) -> Result<(), TakeFault>
         ensures { (h : History) (b : Bytes) → Stands P.rule K.sound K.meaning self.now h → partner b ≡ send → send.post < (K.meaning self.now.keeper).posts → result ≡ partner_judged h b }
     {

@@ -1,4 +1,4 @@
-use Rattle.std.proofs.Common.{◌≡◌, ℕ, ◌<◌, max, ◌≢◌, List, length, get_or, ap, ◌∙◌, arith, length-set, get_or-set_other, get_or-set_same, rules, below_more}
+use Rattle.std.proofs.Common.{◌≡◌, ℕ, ◌<◌, ◌≢◌, List, length, get_or, ap, ◌∙◌, arith, length-set, get_or-set_other, get_or-set_same, rules, below_more}
 use Rattle.join.specs.JoinsLemmas.{larger_by}
 use Rattle.join.proofs.VectorJoin.join.Goals as goal
 
@@ -11,10 +11,10 @@ loop-i-preserved c =
     let xs = c.loop-i.entries in
     let inside : i < length xs = omega (arith, c.loop-i.invariant.0) in
     let now_at : get_or xs i 0 ≡ get_or c.args.self.entries i 0 = c.loop-i.invariant.2 i (omega arith) in (
-      length-set xs i c.max.result ∙ c.loop-i.invariant.0,
+      length-set xs i _ ∙ c.loop-i.invariant.0,
       below_more _ _
           (λ k l. let ne : k ≢ i = omega arith in rw get_or-set_other (c.loop-i.invariant.1 k l))
-          (rw get_or-set_same (c.max.ensures ∙ ap (λ (x : ℕ). max x (get_or c.args.other.entries i 0)) now_at)),
+          (rw get_or-set_same (omega arith)),
       λ k l. let ne : k ≢ i = omega arith in rw get_or-set_other (c.loop-i.invariant.2 k (omega arith)),
     )
 
