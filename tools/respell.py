@@ -1,6 +1,7 @@
 #!/usr/bin/env python3
 """Respells this repository's own definitions, lemmas, fields and constructors, after the kit's port.py: words in snake case, types and facts in
-camel case, and a dash only between two names that a lemma's own name joins. Run it once, at the top, on what port.py left; it prints what it renamed.
+camel case, and a dash only between two names that a lemma's own name joins. Run it once, at the top, on what port.py left. It says
+which new names fall together with others, and how many there are; with --list it only prints them.
 
 Names that the check makes (goals, the steps of a function) and names of the library are left as they are, and so is all text of src/ that is
 not ghost: no Rust name has a dash.

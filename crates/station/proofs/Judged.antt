@@ -1,9 +1,9 @@
 -- What is found of a record, ground by ground.
-use Rattle.std.proofs.Common.{◌≡◌, ℕ, suc, ◌+◌, ◌<◌, ◌≤◌, Bool, true, false, eqb, Ok, Err, Result, sym, refl, ap, ◌∙◌, subst, inl, inr, arith}
+use Rattle.std.proofs.Common.{◌≡◌, ℕ, suc, ◌+◌, ◌<◌, ◌≤◌, Bool, true, false, cond, not, eqb, Ok, Err, Result, sym, refl, ap, ◌∙◌, inl, inr, arith}
 use Rattle.order.proofs.Forms.{Formed, formed}
 use Rattle.order.specs.History.{History, count, held, kind_at, received, ground, partner_ground}
 use Rattle.order.specs.Reads.{ground as ground_of, record_of}
-use Rattle.order.specs.Records.{Bytes, post, kind, number, partner, partner_post, partner_number, form, kind_named}
+use Rattle.order.specs.Records.{Bytes, post, kind, number, partner, form, kind_named}
 use Rattle.order.specs.declared.event.Event.{Event}
 use Rattle.order.specs.declared.event.Kind.TheVariants.{Local, Send, Receive}
 use Rattle.order.specs.declared.«record».Record.{Record}
@@ -16,64 +16,38 @@ use Rattle.station.specs.Takes.{judged, partner_judged, verdict, refusal}
 use Rattle.station.specs.declared.faults.TakeFault.{TakeFault}
 use Rattle.station.specs.declared.faults.TakeFault.TheVariants.{AlreadyReceived, OutOfTurn, PartnerNotHeld, PartnerNotSend, Record as IllFormed}
 
--- The ground of a receive's partner.
+-- What is found of a receive's partner, by what is known of the event that the record names.
 
-ground_9 : (h : History) (r : Bytes) → held h (partner_post r) (partner_number r) ≡ false → partner_ground h r ≡ 9
+named_ground : (h : History) (r : Bytes) (e : Event) → partner r ≡ e
+    → partner_ground h r ≡ cond (not (held h e.post e.number)) 9 (cond (not (eqb (kind_at h e.post e.number) 1)) 10 (cond (received h e.post e.number) 11 0))
 unfolding partner_ground
-ground_9 h r e = cond-true _ _ _ (not_from_false _ e)
-
-ground_10 : (h : History) (r : Bytes) → held h (partner_post r) (partner_number r) ≡ true → eqb (kind_at h (partner_post r) (partner_number r)) 1 ≡ false → partner_ground h r ≡ 10
-unfolding partner_ground
-ground_10 h r e f = cond-false _ _ _ (not_from_true _ e) ∙ cond-true _ _ _ (not_from_false _ f)
-
-ground_11 : (h : History) (r : Bytes) → held h (partner_post r) (partner_number r) ≡ true → eqb (kind_at h (partner_post r) (partner_number r)) 1 ≡ true
-    → received h (partner_post r) (partner_number r) ≡ true → partner_ground h r ≡ 11
-unfolding partner_ground
-ground_11 h r e f x = cond-false _ _ _ (not_from_true _ e) ∙ cond-false _ _ _ (not_from_true _ f) ∙ cond-true _ _ _ x
-
-ground_0 : (h : History) (r : Bytes) → held h (partner_post r) (partner_number r) ≡ true → eqb (kind_at h (partner_post r) (partner_number r)) 1 ≡ true
-    → received h (partner_post r) (partner_number r) ≡ false → partner_ground h r ≡ 0
-unfolding partner_ground
-ground_0 h r e f x = cond-false _ _ _ (not_from_true _ e) ∙ cond-false _ _ _ (not_from_true _ f) ∙ cond-false _ _ _ x
-
--- What is found of a partner by its name.
-
--- what is known of an event by its name is known of a partner
-at : (b : Event → Type 0) {x y : Event} → x ≡ y → b y → b x
-at b e t = subst b (sym e) t
-
-found : (h : History) (r : Bytes) (g : ℕ) → partner_ground h r ≡ g → verdict g tt ≡ partner_judged h r
-found h r g e = sym (ap (λ (x : ℕ). verdict x tt) e)
+named_ground h r e named =
+    ap (λ (x : Event). cond (not (held h x.post x.number)) 9 (cond (not (eqb (kind_at h x.post x.number) 1)) 10 (cond (received h x.post x.number) 11 0))) named
 
 pub partner_missing : (n : ℕ) (h : History) (r : Bytes) (e : Event) → partner r ≡ e → e.post < n → knows n h e ≡ false → Err PartnerNotHeld ≡ partner_judged h r
 unfolding verdict
-partner_missing n h r e named inside none =
-    found h r 9 (ground_9 h r (at (λ (e : Event). held h e.post e.number ≡ false) named (not_held n h e inside none)))
+partner_missing n h r e named inside none = rw (named_ground h r e named, not_held n h e inside none) refl
 
 pub partner_no_send : (n : ℕ) (h : History) (r : Bytes) (e : Event) → partner r ≡ e → knows n h e ≡ true → eqb (kind_at h e.post e.number) 1 ≡ false
     → Err PartnerNotSend ≡ partner_judged h r
 unfolding verdict
-partner_no_send n h r e named there other = found h r 10 (ground_10 h r
-    (at (λ (e : Event). held h e.post e.number ≡ true) named (held_known n h e there))
-    (at (λ (e : Event). eqb (kind_at h e.post e.number) 1 ≡ false) named other))
+partner_no_send n h r e named there other = rw (named_ground h r e named, held_known n h e there, other) refl
 
 pub partner_received : (n : ℕ) (h : History) (r : Bytes) (e : Event) → partner r ≡ e → knows n h e ≡ true → eqb (kind_at h e.post e.number) 1 ≡ true
     → received h e.post e.number ≡ true → Err AlreadyReceived ≡ partner_judged h r
 unfolding verdict
-partner_received n h r e named there send gone = found h r 11 (ground_11 h r
-    (at (λ (e : Event). held h e.post e.number ≡ true) named (held_known n h e there))
-    (at (λ (e : Event). eqb (kind_at h e.post e.number) 1 ≡ true) named send)
-    (at (λ (e : Event). received h e.post e.number ≡ true) named gone))
+partner_received n h r e named there send gone = rw (named_ground h r e named, held_known n h e there, send, gone) refl
 
 pub partner_fresh : (n : ℕ) (h : History) (r : Bytes) (e : Event) → partner r ≡ e → knows n h e ≡ true → eqb (kind_at h e.post e.number) 1 ≡ true
     → received h e.post e.number ≡ false → Ok tt ≡ partner_judged h r
 unfolding verdict
-partner_fresh n h r e named there send fresh = found h r 0 (ground_0 h r
-    (at (λ (e : Event). held h e.post e.number ≡ true) named (held_known n h e there))
-    (at (λ (e : Event). eqb (kind_at h e.post e.number) 1 ≡ true) named send)
-    (at (λ (e : Event). received h e.post e.number ≡ false) named fresh))
+partner_fresh n h r e named there send fresh = rw (named_ground h r e named, held_known n h e there, send, fresh) refl
 
 -- The ground of a record.
+
+-- an equal ground comes to the same
+same_verdict : {A : Type 0} (x : A) (g k : ℕ) → g ≡ k → verdict k x ≡ verdict g x
+same_verdict x g k e = ap (λ (n : ℕ). verdict n x) (sym e)
 
 ground_formed : (n : ℕ) (h : History) (r : Bytes) (g : ℕ) → suc g ≡ form n r → ground n h r ≡ suc g
 unfolding ground
@@ -81,11 +55,11 @@ ground_formed n h r g e = cond-true _ _ _ (not_from_false _ (ne_eqb (form n r) 0
 
 pub ground_form : (n : ℕ) (h : History) (r : Bytes) (f : RecordFault) → ground_of f ≡ form n r → Err (IllFormed f) ≡ judged n h r
 unfolding verdict
-ground_form n h r WrongLength e = sym (ap (λ (g : ℕ). verdict g (record_of r)) (ground_formed n h r 2 e))
-ground_form n h r UnknownKind e = sym (ap (λ (g : ℕ). verdict g (record_of r)) (ground_formed n h r 3 e))
-ground_form n h r UnknownPost e = sym (ap (λ (g : ℕ). verdict g (record_of r)) (ground_formed n h r 4 e))
-ground_form n h r StrayBytes e = sym (ap (λ (g : ℕ). verdict g (record_of r)) (ground_formed n h r 5 e))
-ground_form n h r WrongPartner e = sym (ap (λ (g : ℕ). verdict g (record_of r)) (ground_formed n h r 6 e))
+ground_form n h r WrongLength e = same_verdict (record_of r) _ _ (ground_formed n h r 2 e)
+ground_form n h r UnknownKind e = same_verdict (record_of r) _ _ (ground_formed n h r 3 e)
+ground_form n h r UnknownPost e = same_verdict (record_of r) _ _ (ground_formed n h r 4 e)
+ground_form n h r StrayBytes e = same_verdict (record_of r) _ _ (ground_formed n h r 5 e)
+ground_form n h r WrongPartner e = same_verdict (record_of r) _ _ (ground_formed n h r 6 e)
 
 pub ground_8 : (n : ℕ) (h : History) (r : Bytes) → form n r ≡ 0 → (number r ≡ suc (count h (post r)) → ⊥) → ground n h r ≡ 8
 unfolding ground
@@ -156,7 +130,7 @@ module _ (n m : ℕ) (h : History) (b : Bytes) (same : m ≡ n) where
 
       pub out_of_turn : (r.event.number ≡ k + 1 → ⊥) → Err OutOfTurn ≡ judged n h b
       unfolding verdict
-      out_of_turn ne = sym (ap (λ (g : ℕ). verdict g (record_of b)) (ground_8 n h b form_fine (λ e. ne (omega (arith, e, same_number, counted_here)))))
+      out_of_turn ne = same_verdict (record_of b) _ _ (ground_8 n h b form_fine (λ e. ne (omega (arith, e, same_number, counted_here))))
 
       module _ (turn : r.event.number ≡ k + 1) where
         next : number b ≡ suc (count h (post b))
@@ -170,14 +144,14 @@ module _ (n m : ℕ) (h : History) (b : Bytes) (same : m ≡ n) where
 
         pub partner_refuses : r.kind ≡ Receive → (f : TakeFault) (p : Result (Unit {0}) TakeFault) → p ≡ partner_judged h b → p ≡ Err f → Err f ≡ judged n h b
         partner_refuses e f p judged_so refused =
-            verdict_err (ground n h b) tt (record_of b) f (sym refused ∙ judged_so ∙ ap (λ (g : ℕ). verdict g tt) (sym (ground_receive n h b form_fine next (receiving e))))
+            verdict_err (ground n h b) tt (record_of b) f (sym refused ∙ judged_so ∙ same_verdict tt _ _ (ground_receive n h b form_fine next (receiving e)))
 
         pub partner_accepts : r.kind ≡ Receive → (p : Result (Unit {0}) TakeFault) → p ≡ partner_judged h b → p ≡ Ok tt → Ok r ≡ judged n h b
         unfolding verdict
         partner_accepts e p judged_so passed =
-            ap Ok is ∙ sym (ap (λ (g : ℕ). verdict g (record_of b)) (ground_receive n h b form_fine next (receiving e) ∙ verdict_ok (partner_ground h b) tt tt (sym passed ∙ judged_so)))
+            ap Ok is ∙ same_verdict (record_of b) _ 0 (ground_receive n h b form_fine next (receiving e) ∙ verdict_ok (partner_ground h b) tt tt (sym passed ∙ judged_so))
 
         pub no_receive : (r.kind ≡ Receive → ⊥) → Ok r ≡ judged n h b
         unfolding verdict
         no_receive ne =
-            ap Ok is ∙ sym (ap (λ (g : ℕ). verdict g (record_of b)) (ground_other n h b form_fine next (λ two. ne (ap (λ (x : Record). x.kind) is ∙ ap kind_named two))))
+            ap Ok is ∙ same_verdict (record_of b) _ 0 (ground_other n h b form_fine next (λ two. ne (ap (λ (x : Record). x.kind) is ∙ ap kind_named two)))
