@@ -1,5 +1,5 @@
 -- What reading a record gives.
-use Rattle.std.specs.Prelude.{ℕ, cond, not, ◌&&◌, Ok, Err, Result, ◌==◌, nat_lt}
+use Rattle.std.specs.Prelude.{◌≡◌, ℕ, ◌<◌, ◌≤◌, cond, not, ◌&&◌, Ok, Err, Result, MatchResult, ◌==◌, nat_lt}
 use Rattle.order.specs.declared.event.Event.{Event}
 use Rattle.order.specs.declared.event.Kind.{Kind}
 use Rattle.order.specs.declared.event.Kind.TheVariants.{Local, Send, Receive}
@@ -7,6 +7,10 @@ use Rattle.order.specs.declared.«record».Record.{Record}
 use Rattle.order.specs.declared.«record».RecordFault.{RecordFault}
 use Rattle.order.specs.declared.«record».RecordFault.TheVariants.{WrongLength, UnknownKind, UnknownPost, StrayBytes, WrongPartner}
 use Rattle.order.specs.Records.{Bytes, event, kind, kind_named, partner}
+
+-- r is the kind with this code, and refused above 2
+abbrev pub KindRead : ℕ → Result Kind RecordFault → Type 0
+KindRead code r = MatchResult r (λ k. (code ≤ 2) × (k ≡ kind_named code)) (λ f. (2 < code) × (f ≡ UnknownKind))
 
 abbrev pub record_of : Bytes → Record
 record_of r = record { event = event r; kind = kind_named (kind r); partner = partner r }

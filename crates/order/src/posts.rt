@@ -1,5 +1,5 @@
 // Sets of posts. A kiln has at most 64 posts, so a set is the bits of one `u64`.
-ghost use Rattle.std.specs.Prelude.{◌≡◌, ℕ, ◌-◌, ◌^◌, ◌<◌, min, true, ◌&&◌, ◌||◌, ltb, length, if◌then◌else◌, ◌==◌, bit_or, nat_lt};
+ghost use Rattle.std.specs.Prelude.{◌≡◌, ℕ, ◌-◌, ◌^◌, ◌<◌, min, true, ◌&&◌, ◌||◌, length, if◌then◌else◌, ◌==◌, bit_or, nat_lt};
 ghost use Rattle.order.specs.Posts.{has, below, members, size};
 ghost use Rattle.order.specs.Walk.{rest, Steps};
 ghost use Rattle.std.specs.Iterator.{at_most};
@@ -49,13 +49,12 @@ impl PostSet {
         ensures value { result ≡ has self.bits post }
         ensures bound { result ≡ true → post < 64 }
     {
-        let bits = self.bits;
-        post < MAX_POSTS && (bits >> post) & 1 == 1
+        post < MAX_POSTS && (self.bits >> post) & 1 == 1
     }
 
     // No set has a post from 64 on: there the set stays as it is.
     pub fn insert(&mut self, post: u8)
-        ensures bits { self.new.bits ≡ (if ltb post 64 then bit_or self.old.bits (2 ^ post) else self.old.bits) }
+        ensures bits { self.new.bits ≡ (if nat_lt post 64 then bit_or self.old.bits (2 ^ post) else self.old.bits) }
         ensures members { (q : ℕ) → has self.new.bits q ≡ (has self.old.bits q || (q == post && nat_lt q 64)) }
     {
         if post < MAX_POSTS {
@@ -112,9 +111,8 @@ impl Iterator for Members {
     ghost remaining = { λ s. at_most (length (rest s)) };
 
     fn next(&mut self) -> Option<u8> {
-        while self.next < MAX_POSTS {
-            let post = self.next;
-            self.next += 1;
+        for post in self.next..MAX_POSTS {
+            self.next = post + 1;
             if self.set.contains(post) {
                 return Some(post);
             }

@@ -1,12 +1,15 @@
 // Records: the eight bytes by which a post reports an event.
-ghost use Rattle.std.specs.Prelude.{◌≡◌, ◌+◌, ◌<◌, ◌≤◌, length, IfOk, MatchResult, slice_index};
-ghost use Rattle.order.specs.Reads.{ground, record_of, refused, tail_form};
-ghost use Rattle.order.specs.Records.{form, kind_named, two_bytes};
+ghost use Rattle.std.specs.Prelude.{◌≡◌, ◌+◌, ◌<◌, length, IfOk, slice_index};
+ghost use Rattle.order.specs.Reads.{ground, KindRead, record_of, refused, tail_form};
+ghost use Rattle.order.specs.Records.{code, form, two_bytes};
 
 use crate::event::{Event, Kind};
 
 // How many bytes a record has.
 pub const RECORD_LEN: usize = 8;
+
+// The partner of what is no receive.
+const NO_PARTNER: Event = Event { post: 0, number: 0 };
 
 // What a record reports: an event, and of a receive the send that it names. Of any other the partner is 0 in both fields.
 #[derive(Clone, Copy, Debug)]
@@ -55,7 +58,7 @@ impl Record {
         if bytes.len() != RECORD_LEN {
             return Err(RecordFault::WrongLength);
         }
-        let kind = kind_of(bytes[1])?;
+        let kind = Kind::try_from(bytes[1])?;
         let event = event_at(bytes, 0);
         if event.post >= posts {
             return Err(RecordFault::UnknownPost);
@@ -70,14 +73,31 @@ impl Record {
     }
 }
 
-fn kind_of(code: u8) -> Result<Kind, RecordFault>
-    ensures { MatchResult result (λ k. (code ≤ 2) × (k ≡ kind_named code)) (λ f. (2 < code) × (f ≡ RecordFault.UnknownKind)) }
-{
-    match code {
-        0 => Ok(Kind::Local),
-        1 => Ok(Kind::Send),
-        2 => Ok(Kind::Receive),
-        _ => Err(RecordFault::UnknownKind),
+// The code of a kind, and the kind with a code.
+impl From<Kind> for u8 {
+    ghost from_gives = { λ kind r. r ≡ code kind };
+
+    fn from(kind: Kind) -> u8 {
+        match kind {
+            Kind::Local => 0,
+            Kind::Send => 1,
+            Kind::Receive => 2,
+        }
+    }
+}
+
+impl TryFrom<u8> for Kind {
+    type Error = RecordFault;
+
+    ghost try_from_gives = { KindRead };
+
+    fn try_from(code: u8) -> Result<Kind, RecordFault> {
+        match code {
+            0 => Ok(Kind::Local),
+            1 => Ok(Kind::Send),
+            2 => Ok(Kind::Receive),
+            _ => Err(RecordFault::UnknownKind),
+        }
     }
 }
 
@@ -101,7 +121,7 @@ fn check_tail(kind: Kind, spare: u8, partner: Event, post: u8, posts: u8) -> Res
     }
     match kind {
         Kind::Local | Kind::Send => {
-            if partner.post != 0 || partner.number != 0 {
+            if partner != NO_PARTNER {
                 return Err(RecordFault::StrayBytes);
             }
         }

@@ -7,27 +7,28 @@ use Rattle.std.proofs.iter.Next.{firm}
 
 pub returns-then-contains : goal.returns-then-contains
 returns-then-contains c =
-    let s = c.loop-self.self in
+    let s = c.loop-post.self in
+    let p = c.loop-post.post in
     let m = c.if-contains.ensures.value in
-    let e : rest c.args.self.now ≡ s.next ∷ from (s.next + 1) s.set.bits =
-    sym c.loop-self.invariant.0 ∙ from_with s.next s.set.bits (omega arith) (sym m) in
+    let e : rest c.args.self.now ≡ p ∷ from (p + 1) s.set.bits =
+    c.loop-post.invariant.0 ∙ from_with p s.set.bits (omega arith) (sym m) in
     record {
       steps =
           record {
             least = e;
             bound = omega arith;
-            member = ap (λ b. has b.bits s.next) (sym c.loop-self.invariant.1) ∙ sym m;
-            same = c.loop-self.invariant.1;
+            member = ap (λ b. has b.bits p) (sym c.loop-post.invariant.1) ∙ sym m;
+            same = c.loop-post.invariant.1;
           };
       goes = firm ((tt, tt, omega (arith, ap length e))) (λ h. search rules);
     }
 
-pub loop-self-preserved : goal.loop-self-preserved
-loop-self-preserved c =
-    let s = c.loop-self.self in
-    (sym (from_without s.next s.set.bits (sym c.if-contains.ensures.value)) ∙ c.loop-self.invariant.0, c.loop-self.invariant.1)
+pub loop-post-preserved : goal.loop-post-preserved
+loop-post-preserved c =
+    let s = c.loop-post.self in
+    (c.loop-post.invariant.0 ∙ from_without c.loop-post.post s.set.bits (sym c.if-contains.ensures.value), search rules, search rules)
 
 pub returns : goal.returns
 returns c =
-    let s = c.loop-self.self in
-    record { steps = sym c.loop-self.invariant.0 ∙ from_past s.next s.set.bits (omega arith); goes = firm (tt) (λ h. search rules) }
+    let s = c.loop-post.self in
+    record { steps = c.loop-post.invariant.0 ∙ from_past c.loop-post.post s.set.bits (omega arith); goes = firm (tt) (λ h. search rules) }

@@ -1,10 +1,9 @@
-use Rattle.std.proofs.Common.{◌≡◌, ◌-◌}
+use Rattle.std.proofs.Common.{◌≡◌}
+use Rattle.order.specs.Posts.{from}
 use Rattle.order.specs.Walk.{rest}
 use Rattle.order.proofs.posts.MembersIterator.next.Given as goal
 
 -- no member has been passed over
-abbrev pub invariant-loop-self : goal.invariant-loop-self
-invariant-loop-self l = (rest l.self ≡ rest l.initial.self) × (l.self.set ≡ l.initial.self.set)
-
-abbrev pub decreases-loop-self : goal.decreases-loop-self
-decreases-loop-self l = 64 - l.self.next
+abbrev pub invariant-loop-post : goal.invariant-loop-post
+invariant-loop-post l =
+    (rest l.initial.self ≡ from l.post l.self.set.bits) × (l.self.set ≡ l.initial.self.set) × (l.self.next ≡ l.post)
