@@ -1,6 +1,6 @@
 // The tests that every keeper makes, by numbers alone, in the order in which a keeper owes its failures.
 ghost use Rattle.std.specs.Prelude.{◌≡◌, ◌+◌, ◌≤◌, Ok};
-ghost use Rattle.keeper.specs.Answers.{admission, of_stamp};
+ghost use Rattle.keeper.specs.Answers.{admission, of_post, of_stamp};
 ghost use Rattle.keeper.specs.Piles.{price};
 
 use super::fault::KeeperFault;
@@ -23,6 +23,16 @@ pub fn price(entries: u8) -> usize
     entries as usize + 8
 }
 
+// Whether the post is one of the keeper's.
+pub fn known(posts: u8, post: u8) -> Result<(), KeeperFault>
+    ensures { result ≡ of_post posts post tt }
+{
+    if post >= posts {
+        return Err(KeeperFault::UnknownPost);
+    }
+    Ok(())
+}
+
 // Whether a stamp with this cover and so many entries goes in.
 pub fn admit(
     posts: u8,
@@ -34,9 +44,7 @@ pub fn admit(
 ) -> Result<(), KeeperFault>
     ensures { result ≡ admission posts count space post cover.bits entries }
 {
-    if post >= posts {
-        return Err(KeeperFault::UnknownPost);
-    }
+    known(posts, post)?;
     let size = cover.size();
     if cover.rank(posts) as usize != entries || size as usize != entries {
         return Err(KeeperFault::BadCover);
@@ -44,7 +52,7 @@ pub fn admit(
     if count == u16::MAX {
         return Err(KeeperFault::Full);
     }
-    let wanted = entries + 8;
+    let wanted = price(size as u8);
     if space < wanted {
         return Err(KeeperFault::NoSpace {
             wanted,
@@ -58,9 +66,7 @@ pub fn admit(
 pub fn locate(posts: u8, count: u16, event: Event) -> Result<(), KeeperFault>
     ensures { result ≡ of_stamp posts count event.post event.number (Ok tt) }
 {
-    if event.post >= posts {
-        return Err(KeeperFault::UnknownPost);
-    }
+    known(posts, event.post)?;
     if event.number == 0 || event.number > count {
         return Err(KeeperFault::NotHeld);
     }
