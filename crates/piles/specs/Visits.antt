@@ -7,6 +7,7 @@ use Rattle.keeper.specs.declared.admit.Header.{Header}
 use Rattle.keeper.specs.declared.fault.KeeperFault.{KeeperFault}
 use Rattle.keeper.specs.declared.fault.KeeperFault.TheVariants.{NotCovered}
 use Rattle.order.specs.Posts.{has}
+use Rattle.piles.specs.declared.Draft.{Draft}
 use Rattle.piles.specs.declared.Put.{Put}
 use Rattle.piles.specs.declared.Seen.{Seen}
 use Rattle.piles.specs.declared.Report.{Report}
@@ -17,8 +18,9 @@ pub record Plan : Type 0 where
   pub header : Header
   pub entries : List ℕ
 
-abbrev pub plan : ℕ → Header → List ℕ → Plan
-plan post header entries = record { post = post; header = header; entries = entries }
+-- what a draft puts in
+abbrev pub plan : Draft → Plan
+plan draft = record { post = draft.post; header = draft.header; entries = draft.entries.now }
 
 abbrev pub stamp_for : Plan → Stamp
 stamp_for a = unmarked a.header a.entries

@@ -51,7 +51,7 @@ pub struct Report {
 }
 
 fn put_in<K: Keeper>(keeper: &mut K, draft: Draft) -> Result<Put, KeeperFault>
-    ensures { K.Keeper.sound keeper.old → K.Keeper.sound keeper.new × Puts (K.Keeper.meaning keeper.old) (K.Keeper.meaning keeper.new) (plan draft.entry.post draft.entry.header draft.entry.entries.now) result }
+    ensures { K.Keeper.sound keeper.old → K.Keeper.sound keeper.new × Puts (K.Keeper.meaning keeper.old) (K.Keeper.meaning keeper.new) (plan draft.entry) result }
 {
     let before = keeper.space(draft.post)?;
     keeper.append(draft.post, draft.header, draft.entries)?;
@@ -82,7 +82,7 @@ pub fn visit<K: Keeper>(
     second: Draft,
     asked: u8,
 ) -> Result<Report, KeeperFault>
-    ensures { K.Keeper.sound keeper.old → K.Keeper.sound keeper.new × Reports (K.Keeper.meaning keeper.old) (plan first.entry.post first.entry.header first.entry.entries.now) (plan second.entry.post second.entry.header second.entry.entries.now) asked result }
+    ensures { K.Keeper.sound keeper.old → K.Keeper.sound keeper.new × Reports (K.Keeper.meaning keeper.old) (plan first.entry) (plan second.entry) asked result }
 {
     let one = put_in(keeper, first)?;
     let two = put_in(keeper, second)?;

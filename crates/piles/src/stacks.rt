@@ -25,7 +25,7 @@ pub fn visit_stack<K: Keeper + Drop>(
     second: Draft,
     asked: u8,
 ) -> Result<Report, KeeperFault>
-    ensures { K.Keeper.sound below → Reports (limited (K.Keeper.meaning below) allowance) (plan first.entry.post first.entry.header first.entry.entries.now) (plan second.entry.post second.entry.header second.entry.entries.now) asked result }
+    ensures { K.Keeper.sound below → Reports (limited (K.Keeper.meaning below) allowance) (plan first.entry) (plan second.entry) asked result }
 {
     let mut pile = shelf_over_quota(Shelf::new(below), allowance);
     visit(&mut pile, first, second, asked)

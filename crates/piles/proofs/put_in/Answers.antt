@@ -6,7 +6,7 @@ pub returns : goal.returns
 returns g c = λ s.
     let was = g.K.Keeper.meaning c.args.keeper.now in
     let is = g.K.Keeper.meaning c.append.new.self in
-    let a = plan c.args.draft.post c.args.draft.header c.args.draft.entries.now in
+    let a = plan c.args.draft in
     let made = c.in_ok-append.ensures s in (
       made.0,
       puts was is a c.in_ok-before.before c.in_ok-after.after c.in_ok-number.number c.saturating_sub.result made.1
