@@ -65,14 +65,8 @@ impl ShelfTable {
         ensures found { result ≡ found self.now.slots event }
         ensures tells { (m : Pile) → Agrees m self.now.slots → IfSome result (λ s. Tells m event s) }
     {
-        if event.post >= MAX_POSTS {
-            return None;
-        }
-        let latest = self.slots[event.post as usize];
-        match latest {
-            Some(slot) if slot.number == event.number => Some(slot),
-            _ => None,
-        }
+        let latest = self.slots.get(event.post as usize).copied().flatten();
+        latest.filter(|slot| slot.number == event.number)
     }
 
     fn put(&mut self, post: u8, slot: Slot)
