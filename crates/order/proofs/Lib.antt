@@ -1,5 +1,6 @@
 pub mod Chains
 pub mod Forms
 pub mod Held
+pub mod Made
 pub mod PostSets
 pub mod Vectors

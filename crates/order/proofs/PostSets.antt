@@ -119,11 +119,13 @@ below_power : (n : ℕ) → n < 2 ^ n
 below_power zero = lit< tt
 below_power (suc n) = omega (arith, below_power n, pow-suc 2 n)
 
+inside : (a n : ℕ) → a ≤ n → a < 2 ^ n
+inside a n l = omega (arith, below_power a, pow_mono l)
+
 pub same_set : (a b : ℕ) → ((q : ℕ) → has a q ≡ has b q) → a ≡ b
 same_set a b h =
-    let k : a < 2 ^ (a + b) = omega (arith, below_power a, pow_mono {i = a} {j = a + b} (omega arith)) in
-    let l : b < 2 ^ (a + b) = omega (arith, below_power b, pow_mono {i = b} {j = a + b} (omega arith)) in
-    sym (mod-eq_of_lt k) ∙ same_digits a b (a + b) (λ q _. h q) ∙ mod-eq_of_lt l
+    sym (mod-eq_of_lt (inside a (a + b) (omega arith))) ∙ same_digits a b (a + b) (λ q _. h q)
+    ∙ mod-eq_of_lt (inside b (a + b) (omega arith))
 
 or_three : (x y z : Bool) → ((x || y) || z) ≡ (x || (y || z))
 or_three true y z = refl

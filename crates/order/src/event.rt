@@ -7,10 +7,10 @@ pub struct Event {
     pub number: u16,
 }
 
-// What an event is: something at its post alone, the sending of a message, or the receiving of one.
+// What an event is: something at its post alone, the sending of a message, or the receiving of one; with its code.
 #[derive(Clone, Copy, PartialEq, Eq, Debug)]
 pub enum Kind {
-    Local,
-    Send,
-    Receive,
+    Local = 0,
+    Send = 1,
+    Receive = 2,
 }

@@ -19,7 +19,8 @@ impl PostSet {
         PostSet { bits: 0 }
     }
 
-    // The set as one number, bit q for post q, and back: for a store that has only numbers.
+    // The set as one number, bit q for post q, and back: for a store that has only numbers. By name, since a `From` would
+    // not say that the number is of bits.
     pub fn bits(self) -> u64
         ensures { result ≡ self.bits }
     {

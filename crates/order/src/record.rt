@@ -11,41 +11,36 @@ pub const RECORD_LEN: usize = 8;
 // The partner of what is no receive.
 const NO_PARTNER: Event = Event { post: 0, number: 0 };
 
-// What a record reports: an event, and of a receive the send that it names. Of any other the partner is 0 in both fields.
-#[derive(Clone, Copy, Debug)]
+// What a record reports: an event, and of a receive the send that it names. Of any other the partner is 0 in both fields,
+// as the bytes have it.
+#[derive(Clone, Copy, PartialEq, Eq, Debug)]
 pub struct Record {
     pub event: Event,
     pub kind: Kind,
     pub partner: Event,
 }
 
-// Why the form of a record is refused.
+// Why the form of a record is refused, with the number of the ground.
 #[derive(Clone, Copy, PartialEq, Eq, Debug)]
 pub enum RecordFault {
     // it has not eight bytes
-    WrongLength,
+    WrongLength = 3,
     // its kind is none of the three
-    UnknownKind,
+    UnknownKind = 4,
     // its post is not among the station's
-    UnknownPost,
+    UnknownPost = 5,
     // its spare byte is set, or a partner's field of what is no receive
-    StrayBytes,
+    StrayBytes = 6,
     // a receive's partner is at no other of the station's posts
-    WrongPartner,
+    WrongPartner = 7,
 }
 
 impl RecordFault {
-    // The number of the ground, as a station answers it.
+    // The number of the ground, as a station answers it: a name for what `as` gives.
     pub fn ground(self) -> u8
         ensures { result ≡ ground self }
     {
-        match self {
-            RecordFault::WrongLength => 3,
-            RecordFault::UnknownKind => 4,
-            RecordFault::UnknownPost => 5,
-            RecordFault::StrayBytes => 6,
-            RecordFault::WrongPartner => 7,
-        }
+        self as u8
     }
 }
 
@@ -78,11 +73,7 @@ impl From<Kind> for u8 {
     ghost from_gives = { λ kind r. r ≡ code kind };
 
     fn from(kind: Kind) -> u8 {
-        match kind {
-            Kind::Local => 0,
-            Kind::Send => 1,
-            Kind::Receive => 2,
-        }
+        kind as u8
     }
 }
 

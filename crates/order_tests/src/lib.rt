@@ -6,16 +6,11 @@ mod tests {
     use order::record::Record;
     use std::test::Fail;
 
-    // The ground that refuses the bytes at a station of so many posts, or 0.
+    // The ground that refuses the bytes at a station of so many posts, or 0, as the rows of the table have it.
     fn ground(bytes: &[u8], posts: u8) -> u8 {
-        match Record::read(bytes, posts) {
-            Ok(_) => 0,
-            Err(fault) => fault.ground(),
-        }
-    }
-
-    fn ground_of(record: [u8; 8], posts: u8) -> u8 {
-        ground(&record, posts)
+        Record::read(bytes, posts)
+            .err()
+            .map_or(0, |fault| fault.ground())
     }
 
     #[test]
@@ -50,7 +45,7 @@ mod tests {
             ([63, 2, 0, 1, 64, 0, 0, 1], 64, 7),
         ];
         for (bytes, posts, expected) in table {
-            assert_eq!(rt; ground_of(bytes, posts), expected);
+            assert_eq!(rt; ground(&bytes, posts), expected);
         }
     }
 
