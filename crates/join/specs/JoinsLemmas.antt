@@ -1,10 +1,15 @@
--- The two joins show the law.
-use Rattle.std.specs.Prelude.{◌≡◌, ℕ, zero, suc, ◌+◌, ◌^◌, ◌<◌, ◌≤◌, max, Bool, true, false, ◌||◌, List, [], ◌∷◌, length, bit_or, slice_index, refl}
-use Rattle.std.proofs.Common.{sym, ap, ap₂, ◌∙◌, mod-eq_of_lt, pow-suc, arith, pow_mono}
-use Rattle.std.proofs.lemmas.Nat.{or_lt}
-use Rattle.order.proofs.PostSets.{same_digits, has_union}
-use Rattle.order.specs.Posts.{has}
-use Rattle.join.specs.Joins.{larger}
+-- The two joins show the law. This stands in specs/ since the laws of an impl may cite no file of the crate's proofs/.
+use Rattle.std.specs.Prelude.{◌≡◌, ℕ, zero, suc, ◌<◌, max, List, [], ◌∷◌, length, slice_index, refl}
+use Rattle.std.proofs.Common.{sym, ap, ap₂, ◌∙◌, subst, arith}
+use Rattle.std.proofs.Math.Nat.{ℕ_set}
+use Rattle.std.proofs.lemmas.Nat.{or_comm}
+use Rattle.std.specs.Int.Bits.{or_self}
+use Rattle.order.proofs.PostSets.{union_assoc}
+use Rattle.order.specs.declared.posts.PostSet.{PostSet}
+use Rattle.join.specs.Joins.{larger, larger_vector, union_set}
+use Rattle.join.specs.declared.vector.Vector.{Vector}
+
+-- The larger entry at each place of two lists.
 
 pub larger_assoc : (xs ys zs : List ℕ) → larger (larger xs ys) zs ≡ larger xs (larger ys zs)
 unfolding larger
@@ -25,7 +30,6 @@ unfolding larger
 larger_self [] = refl
 larger_self (x ∷ xs) = ap₂ (λ (a : ℕ) (b : List ℕ). a ∷ b) (omega arith) (larger_self xs)
 
--- at each place of two vectors of one length stands the larger entry
 pub get_or_larger : (xs ys : List ℕ) (i : ℕ) → length xs ≡ length ys → slice_index (larger xs ys) i ≡ max (slice_index xs i) (slice_index ys i)
 unfolding larger
 get_or_larger [] [] i e = omega arith
@@ -34,14 +38,7 @@ get_or_larger (x ∷ xs) [] i e = absurd (omega arith)
 get_or_larger (x ∷ xs) (y ∷ ys) zero e = refl
 get_or_larger (x ∷ xs) (y ∷ ys) (suc i) e = get_or_larger xs ys i (omega arith)
 
-pub length_larger : (xs ys : List ℕ) → length xs ≡ length ys → length (larger xs ys) ≡ length xs
-unfolding larger
-length_larger [] [] e = refl
-length_larger [] (y ∷ ys) e = absurd (omega arith)
-length_larger (x ∷ xs) [] e = absurd (omega arith)
-length_larger (x ∷ xs) (y ∷ ys) e = ap suc (length_larger xs ys (omega arith))
-
--- a vector with the larger entry at each place
+-- a list with the larger entry at each place is that list
 pub larger_by : (xs ys zs : List ℕ) → length xs ≡ length ys → length ys ≡ length zs
     → ((k : ℕ) → k < length xs → slice_index xs k ≡ max (slice_index ys k) (slice_index zs k)) → xs ≡ larger ys zs
 unfolding larger
@@ -53,25 +50,37 @@ larger_by (x ∷ xs) (y ∷ ys) [] a b at = absurd (omega arith)
 larger_by (x ∷ xs) (y ∷ ys) (z ∷ zs) a b at =
     ap₂ (λ (v : ℕ) (vs : List ℕ). v ∷ vs) (at 0 (omega arith)) (larger_by xs ys zs (omega arith) (omega arith) (λ k l. at (suc k) (omega arith)))
 
--- Union of sets of any size.
+-- Vectors.
 
-below_pow : (n : ℕ) → n < 2 ^ n
-below_pow zero = omega arith
-below_pow (suc n) = omega (arith, below_pow n, pow-suc 2 n)
+-- those of the same entries are the same
+pub same_entries : (v w : Vector) → v.entries ≡ w.entries → v ≡ w
+same_entries v w e =
+    subst (λ (xs : List ℕ). (f : length xs ≡ 64) → v ≡ record { entries = xs; full = f }) e
+    (λ f. ap (λ (g : length v.entries ≡ 64). record { entries = v.entries; full = g }) (ℕ_set _ _ v.full f)) w.full
 
-inside : (a n : ℕ) → a ≤ n → a < 2 ^ n
-inside a n l = omega (arith, below_pow a, pow_mono l)
+-- for each post stands the larger entry
+pub entry_joined : (v w : Vector) (q : ℕ) → slice_index (larger_vector v w).entries q ≡ max (slice_index v.entries q) (slice_index w.entries q)
+entry_joined v w q = get_or_larger v.entries w.entries q (v.full ∙ sym w.full)
 
-or_three : (x y z : Bool) → ((x || y) || z) ≡ (x || (y || z))
-or_three true y z = refl
-or_three false y z = refl
+pub vectors_associative : (u v w : Vector) → larger_vector (larger_vector u v) w ≡ larger_vector u (larger_vector v w)
+vectors_associative u v w = same_entries _ _ (larger_assoc u.entries v.entries w.entries)
 
-pub union_assoc : (a b c : ℕ) → bit_or (bit_or a b) c ≡ bit_or a (bit_or b c)
-union_assoc a b c =
-    let n = a + b + c in
-    let ka = inside a n (omega arith) in
-    let kb = inside b n (omega arith) in
-    let kc = inside c n (omega arith) in
-    sym (mod-eq_of_lt (or_lt n (bit_or a b) c (or_lt n a b ka kb) kc))
-    ∙ same_digits (bit_or (bit_or a b) c) (bit_or a (bit_or b c)) n (λ q _. simp has_union (or_three (has a q) (has b q) (has c q)))
-    ∙ mod-eq_of_lt (or_lt n a (bit_or b c) ka (or_lt n b c kb kc))
+pub vectors_commutative : (v w : Vector) → larger_vector v w ≡ larger_vector w v
+vectors_commutative v w = same_entries _ _ (larger_comm v.entries w.entries)
+
+pub vectors_idempotent : (v : Vector) → larger_vector v v ≡ v
+vectors_idempotent v = same_entries _ _ (larger_self v.entries)
+
+-- Sets.
+
+abbrev set : ℕ → PostSet
+set n = record { bits = n }
+
+pub sets_associative : (a b c : PostSet) → union_set (union_set a b) c ≡ union_set a (union_set b c)
+sets_associative a b c = ap set (union_assoc a.bits b.bits c.bits)
+
+pub sets_commutative : (a b : PostSet) → union_set a b ≡ union_set b a
+sets_commutative a b = ap set (or_comm a.bits b.bits)
+
+pub sets_idempotent : (a : PostSet) → union_set a a ≡ a
+sets_idempotent a = ap set (or_self a.bits)

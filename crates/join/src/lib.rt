@@ -2,16 +2,12 @@
 #![tactic(auto)]
 
 ghost use Rattle.std.specs.Prelude.{◌≡◌};
-ghost use Rattle.std.proofs.Common.{ap};
+ghost use Rattle.join.specs.JoinsLemmas.{vectors_associative, vectors_commutative, vectors_idempotent, sets_associative, sets_commutative, sets_idempotent};
 ghost use Rattle.join.specs.Folds.{OrderFree};
 ghost use Rattle.join.specs.Joins.{larger_vector, union_set};
-ghost use Rattle.join.specs.JoinsLemmas.{larger_assoc, larger_comm, larger_self, union_assoc};
-ghost use Rattle.join.specs.VectorJoinLemmas.{of_entries};
-ghost use Rattle.join.specs.PostSetJoinLemmas.{of_bits};
-ghost use Rattle.std.proofs.lemmas.Nat.{or_comm};
-ghost use Rattle.std.specs.Int.Bits.{or_self};
 
 use order::posts::PostSet;
+use std::array;
 use vector::Vector;
 
 pub mod vector;
@@ -30,32 +26,32 @@ pub trait Join: Sized {
     ghost idempotent: { (x : Self) → join x x ≡ x };
 }
 
+// The larger entry for each post.
 impl Join for Vector {
     ghost join = { larger_vector };
 
-    ghost associative = { λ x y z. ap of_entries (larger_assoc x.entries y.entries z.entries) };
+    ghost associative = { vectors_associative };
 
-    ghost commutative = { λ x y. ap of_entries (larger_comm x.entries y.entries) };
+    ghost commutative = { vectors_commutative };
 
-    ghost idempotent = { λ x. ap of_entries (larger_self x.entries) };
+    ghost idempotent = { vectors_idempotent };
 
     fn join(self, other: Vector) -> Vector {
-        let mut entries = self.entries;
-        for i in 0..64 {
-            entries[i] = entries[i].max(other.entries[i]);
+        Vector {
+            entries: array::from_fn(|post| self.entries[post].max(other.entries[post])),
         }
-        Vector { entries }
     }
 }
 
+// The posts of either set.
 impl Join for PostSet {
     ghost join = { union_set };
 
-    ghost associative = { λ x y z. ap of_bits (union_assoc x.bits y.bits z.bits) };
+    ghost associative = { sets_associative };
 
-    ghost commutative = { λ x y. ap of_bits (or_comm x.bits y.bits) };
+    ghost commutative = { sets_commutative };
 
-    ghost idempotent = { λ x. ap of_bits (or_self x.bits) };
+    ghost idempotent = { sets_idempotent };
 
     fn join(self, other: PostSet) -> PostSet {
         self.union(other)
