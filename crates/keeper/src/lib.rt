@@ -15,7 +15,9 @@ pub mod admit;
 pub mod fault;
 
 // A keeper of stamps. What it promises holds of each value that its opening and its calls give: that a value is
-// such a one is `sound`. Over any other value its calls are safe and end, and nothing more.
+// such a one is `sound`. Over any other value its calls are safe and end, and nothing more. It is a premise here. A
+// pool and columns carry the same fact in their types; a layer can't, since what it remembers must agree with the keeper
+// below.
 pub trait Keeper {
     ghost meaning: { Self → Pile };
 
