@@ -1,15 +1,15 @@
 -- Reading a stamp's cells.
-use Rattle.std.proofs.Common.{◌≡◌, ℕ, ◌+◌, ◌-◌, ◌/◌, ◌%◌, ◌<◌, ◌≤◌, Bool, eqb, List, ◌++◌, length, get_or, take, drop, sym, refl, ap, ◌∙◌, arith, lit<}
+use Rattle.std.proofs.Common.{◌≡◌, ℕ, ◌+◌, ◌-◌, ◌/◌, ◌<◌, ◌≤◌, List, ◌++◌, length, get_or, take, drop, sym, refl, ap, ◌∙◌, arith, lit<}
 use borrow.Rule.Slice.PartMut.{put_mid}
-use Rattle.std.proofs.lemmas.List.{append_assoc, ext_get_or, get_or_append_left, get_or-append_right, get_or-take, get_or-drop, length-append, length-take, length-take-le, length-drop, length-set, get_or-set_same, get_or-set_other, take_at, drop_at, drop-drop}
+use Rattle.std.proofs.lemmas.List.{append_assoc, length-append, length-take, length-drop, length-set, get_or-set_same, get_or-set_other, take_at, drop_at, drop-drop}
+use Rattle.std.proofs.lemmas.Grind.{common_steps, elements}
 use Rattle.std.proofs.lemmas.Slice.{take-put_mid, drop-put_mid}
 use Rattle.order.specs.Posts.{size}
-use Rattle.order.specs.declared.event.Kind.{Kind}
 use Rattle.order.proofs.PostSets.{length_below_le}
 use Rattle.keeper.specs.Moves.{unmarked}
-use Rattle.keeper.specs.Piles.{Stamp, price, with_mark}
+use Rattle.keeper.specs.Piles.{price, with_mark}
 use Rattle.keeper.specs.declared.admit.Header.{Header}
-use Rattle.pool.specs.Layout.{mark_at, code_at, post_at, cover_at, full_at, link_at, entries_at, kind_of, stamp_at, past, Packs, with_stamp, marking, with_mark_at}
+use Rattle.pool.specs.Layout.{mark_at, code_at, post_at, cover_at, full_at, link_at, entries_at, stamp_at, past, Packs, with_stamp, marking, with_mark_at}
 
 -- the header cells after the first are the same, in ys from a on and in xs from b on
 abbrev pub Alike : List ℕ → ℕ → List ℕ → ℕ → Type 0
@@ -17,40 +17,22 @@ Alike ys a xs b = (k : ℕ) → 0 < k → k < 8 → get_or ys (a + k) 0 ≡ get_
 
 pub cover_alike : (ys xs : List ℕ) (a b : ℕ) → Alike ys a xs b → cover_at ys a ≡ cover_at xs b
 unfolding cover_at
-cover_alike ys xs a b s =
-    omega (arith, s 1 (lit< tt) (lit< tt), s 2 (lit< tt) (lit< tt), s 3 (lit< tt) (lit< tt), s 4 (lit< tt) (lit< tt))
+cover_alike ys xs a b s = omega arith
 
 pub full_alike : (ys xs : List ℕ) (a b : ℕ) → Alike ys a xs b → full_at ys a ≡ full_at xs b
 unfolding full_at
-full_alike ys xs a b s = s 5 (lit< tt) (lit< tt)
+full_alike ys xs a b s = omega arith
 
 pub link_alike : (ys xs : List ℕ) (a b : ℕ) → Alike ys a xs b → link_at ys a ≡ link_at xs b
 unfolding link_at
-link_alike ys xs a b s = omega (arith, s 6 (lit< tt) (lit< tt), s 7 (lit< tt) (lit< tt))
+link_alike ys xs a b s = omega arith
 
 pub entries_alike
     : (ys xs : List ℕ) (a : ℕ) → length ys ≡ length xs → cover_at ys a ≡ cover_at xs a
     → ((k : ℕ) → k < size (cover_at xs a) → get_or ys (a + 8 + k) 0 ≡ get_or xs (a + 8 + k) 0)
     → entries_at ys a ≡ entries_at xs a
 unfolding entries_at
-entries_alike ys xs a l e s =
-    rw e (ext_get_or 0 (take (size (cover_at xs a)) (drop (a + 8) ys)) (take (size (cover_at xs a)) (drop (a + 8) xs)) long each)
-  where
-    long : length (take (size (cover_at xs a)) (drop (a + 8) ys)) ≡ length (take (size (cover_at xs a)) (drop (a + 8) xs))
-    long = simp (length-take, length-drop) (omega arith)
-
-    each
-        : (k : ℕ) → k < length (take (size (cover_at xs a)) (drop (a + 8) ys))
-        → get_or (take (size (cover_at xs a)) (drop (a + 8) ys)) k 0 ≡ get_or (take (size (cover_at xs a)) (drop (a + 8) xs)) k 0
-    each k h =
-        let n : k < size (cover_at xs a) = omega (arith, simp length-take at h) in
-        get_or-take (size (cover_at xs a)) (drop (a + 8) ys) k 0 n ∙ get_or-drop (a + 8) ys k 0 ∙ s k n
-        ∙ sym (get_or-take (size (cover_at xs a)) (drop (a + 8) xs) k 0 n ∙ get_or-drop (a + 8) xs k 0)
-
-same_stamp
-    : (k k' : Kind) (m m' : Bool) (c c' f f' : ℕ) (es es' : List ℕ) → k ≡ k' → m ≡ m' → c ≡ c' → f ≡ f' → es ≡ es'
-    → ◌≡◌ {A = Stamp} (record { kind = k; marked = m; cover = c; full = f; entries = es }) (record { kind = k'; marked = m'; cover = c'; full = f'; entries = es' })
-same_stamp k k' m m' c c' f f' es es' p q r s t = rw (p, q, r, s, t) refl
+entries_alike ys xs a l e s = rw e (grind (arith, elements))
 
 -- a stamp's extent
 pub past_more : (xs : List ℕ) (a : ℕ) → a + 8 ≤ past xs a
@@ -67,8 +49,7 @@ pub stamp_alike
     → stamp_at ys a ≡ stamp_at xs a
 unfolding past mark_at code_at
 stamp_alike ys xs a l s =
-    same_stamp _ _ _ _ _ _ _ _ _ _ (ap (λ (n : ℕ). kind_of (n / 2 % 4)) first) (ap (λ (n : ℕ). eqb (n % 2) 1) first) cover
-    (full_alike ys xs a a next) (entries_alike ys xs a l cover (λ k h. s (a + 8 + k) (omega arith) (omega arith)))
+    rw (first, cover, full_alike ys xs a a next, entries_alike ys xs a l cover (λ k h. s (a + 8 + k) (omega arith) (omega arith))) refl
   where
     first : get_or ys a 0 ≡ get_or xs a 0
     first = s a (omega arith) (omega arith)
@@ -84,8 +65,7 @@ stamp_alike ys xs a l s =
 pub stamp_marked : (xs : List ℕ) (a : ℕ) → a < length xs → stamp_at (with_mark_at xs a) a ≡ with_mark (stamp_at xs a)
 unfolding mark_at code_at
 stamp_marked xs a w =
-    same_stamp _ _ _ _ _ _ _ _ _ _ (ap kind_of code) (ap (λ (n : ℕ). eqb n 1) mark) cover
-    (full_alike ys xs a a next) (entries_alike ys xs a (length-set xs a _) cover (λ k h. get_or-set_other xs a (a + 8 + k) _ 0 (omega arith)))
+    rw (code, mark, cover, full_alike ys xs a a next, entries_alike ys xs a (length-set xs a _) cover (λ k h. get_or-set_other xs a (a + 8 + k) _ 0 (omega arith))) refl
   where
     ys : List ℕ
     ys = with_mark_at xs a
@@ -116,15 +96,12 @@ length_written xs a hs es h w = simp (length-append, length-take, length-drop) (
 
 -- what lay below stays
 pub below_written : (xs : List ℕ) (a : ℕ) (hs es : List ℕ) → a ≤ length xs → (k : ℕ) → k < a → get_or (with_stamp xs a hs es) k 0 ≡ get_or xs k 0
-below_written xs a hs es w k h =
-    get_or_append_left (take a xs) _ 0 k (simp length-take (omega arith)) ∙ get_or-take a xs k 0 h
+below_written xs a hs es w k h = grind (arith, common_steps)
 
 -- the header can be read
 pub header_written
     : (xs : List ℕ) (a : ℕ) (hs es : List ℕ) → length hs ≡ 8 → a ≤ length xs → (k : ℕ) → k < 8 → get_or (with_stamp xs a hs es) (a + k) 0 ≡ get_or hs k 0
-header_written xs a hs es l w k h =
-    get_or-append_right (take a xs) _ a (a + k) 0 (length-take-le a xs w) (omega arith)
-    ∙ ap (λ (n : ℕ). get_or (hs ++ (es ++ drop (a + 8 + length es) xs)) n 0) (omega arith) ∙ get_or_append_left hs _ 0 k (omega arith)
+header_written xs a hs es l w k h = grind (arith, common_steps)
 
 entries_written
     : (xs : List ℕ) (a : ℕ) (hs es : List ℕ) → length hs ≡ 8 → a ≤ length xs → take (length es) (drop (a + 8) (with_stamp xs a hs es)) ≡ es
@@ -148,9 +125,7 @@ written xs a hs es post header link p w z =
       posted = ap (λ (n : ℕ). n / 8) first ∙ p.posted;
       linked = link_alike ys hs a 0 next ∙ p.linked;
       ends = ap (λ (n : ℕ). a + price n) sized;
-      stamp =
-          same_stamp _ _ _ _ _ _ _ _ _ _ (ap (λ (n : ℕ). kind_of (n / 2 % 4)) first ∙ p.kind) (ap (λ (n : ℕ). eqb (n % 2) 1) first ∙ ap (λ (n : ℕ). eqb n 1) p.unmarked) cover
-          (full_alike ys hs a 0 next ∙ p.full) (ap (λ (n : ℕ). take n (drop (a + 8) ys)) sized ∙ entries_written xs a hs es p.long w);
+      stamp = rw (first, p.kind, p.unmarked, cover, full_alike ys hs a 0 next, p.full, z, entries_written xs a hs es p.long w) refl;
     }
   where
     ys : List ℕ

@@ -1,8 +1,7 @@
 -- How one stamp lies in cells of 16 bits: eight cells of header from its place on, then its entries.
-use Rattle.std.specs.Prelude.{◌≡◌, ℕ, ◌+◌, ◌*◌, ◌/◌, ◌%◌, cond, List, ◌++◌, length, take, drop, ◌==◌, slice_index, slice_set}
+use Rattle.std.specs.Prelude.{◌≡◌, ℕ, ◌+◌, ◌*◌, ◌/◌, ◌%◌, List, ◌++◌, length, take, drop, ◌==◌, slice_index, slice_set}
 use Rattle.order.specs.Posts.{size}
-use Rattle.order.specs.declared.event.Kind.{Kind}
-use Rattle.order.specs.declared.event.Kind.TheVariants.{Local, Send, Receive}
+use Rattle.order.specs.Records.{kind_named}
 use Rattle.keeper.specs.Piles.{Stamp, price}
 use Rattle.keeper.specs.declared.admit.Header.{Header}
 
@@ -32,13 +31,10 @@ link_at cells a = slice_index cells (a + 6) + slice_index cells (a + 7) * 65536
 unfoldable pub entries_at : List ℕ → ℕ → List ℕ
 entries_at cells a = take (size (cover_at cells a)) (drop (a + 8) cells)
 
-abbrev pub kind_of : ℕ → Kind
-kind_of code = cond (code == 0) Local (cond (code == 1) Send Receive)
-
 abbrev pub stamp_at : List ℕ → ℕ → Stamp
 stamp_at cells a =
     record {
-      kind = kind_of (code_at cells a);
+      kind = kind_named (code_at cells a);
       marked = (mark_at cells a == 1);
       cover = cover_at cells a;
       full = full_at cells a;
@@ -53,7 +49,7 @@ past cells a = a + price (size (cover_at cells a))
 pub record Packs (cells : List ℕ) (post : ℕ) (header : Header) (link : ℕ) : Type 0 where
   pub long : length cells ≡ 8
   pub unmarked : mark_at cells 0 ≡ 0
-  pub kind : kind_of (code_at cells 0) ≡ header.kind
+  pub kind : kind_named (code_at cells 0) ≡ header.kind
   pub posted : post_at cells 0 ≡ post
   pub cover : cover_at cells 0 ≡ header.cover.bits
   pub full : full_at cells 0 ≡ header.full

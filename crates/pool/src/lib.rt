@@ -16,12 +16,12 @@
 ghost use Rattle.std.specs.Prelude.{◌≡◌, ◌+◌, ◌-◌, ◌^◌, ◌<◌, ◌≤◌, length, slice_index};
 ghost use Rattle.keeper.specs.Piles.{fresh, opened};
 ghost use Rattle.pool.specs.Layout.{cover_at, link_at, with_stamp};
-ghost use Rattle.pool.specs.Room.{Rooms, finding};
-ghost use Rattle.pool.specs.Stack.{Sound, pile, empty_index};
+ghost use Rattle.pool.specs.Room.{Rooms, Finds};
+ghost use Rattle.pool.specs.Stack.{Sound, pile, latest_of, empty_index};
 
-use header::{kind_of, packed};
+use header::packed;
 use keeper::Keeper;
-use keeper::admit::{Header, admit, locate};
+use keeper::admit::{Header, admit, known, locate, opened};
 use keeper::fault::KeeperFault;
 use order::event::{Event, Kind};
 use order::posts::{MAX_POSTS, PostSet};
@@ -31,24 +31,32 @@ mod header;
 // The cells of a header.
 const HEADER: usize = 8;
 
-// What stands beside the cells.
+// What stands beside the cells. The cells are lent and nothing here allocates, so `used` counts what is filled, and
+// stamps are named and linked by places.
 #[derive(Drop)]
 struct Index {
     posts: u8,
     // The cells in use. There are at most 64 * 65,535 stamps of at most 72 cells, so 32 bits hold any place.
     used: u32,
-    // For each post, how many stamps it has, and the place of the newest.
-    counts: [u16; 64],
-    newest: [u32; 64],
+    latest: [Latest; 64],
+}
+
+// Of one post: how many stamps it has, and the place of the newest.
+#[derive(Clone, Copy, Default, Drop)]
+struct Latest {
+    count: u16,
+    newest: u32,
 }
 
 #[derive(Drop)]
 pub struct Pool<'a> {
     cells: &'a mut [u16],
     index: Index,
+    ghost sound: { Sound index cells.now },
 }
 
 // A pool with no stamps. For more than 64 posts it is opened for none.
+#[tactic(auto, using(crate::proofs::Opens::empty_sound))]
 pub fn open<'a>(posts: u8, cells: &'a mut [u16]) -> Pool<'a>
     ensures sound { Sound result.index result.cells.now }
     ensures meaning { pile result.index result.cells.now ≡ fresh (opened posts) (λ _. length cells.old) }
@@ -63,10 +71,9 @@ fn empty(posts: u8) -> Index
     ensures { result ≡ empty_index (opened posts) }
 {
     Index {
-        posts: if posts > MAX_POSTS { 0 } else { posts },
+        posts: opened(posts),
         used: 0,
-        counts: [0; 64],
-        newest: [0; 64],
+        latest: [Latest::default(); 64],
     }
 }
 
@@ -75,13 +82,11 @@ impl Pool<'_> {
     fn cell(&self, at: usize) -> u16
         ensures { result ≡ slice_index self.now.cells.now at }
     {
-        match self.cells.get(at) {
-            Some(cell) => *cell,
-            None => 0,
-        }
+        self.cells.get(at).copied().unwrap_or(0)
     }
 
-    // The cover of the stamp at this place.
+    // The cover of the stamp at this place. The library puts numbers together of bytes, and not of cells.
+    #[tactic(auto, unfolding(crate::specs::Layout::cover_at))]
     fn cover_at(&self, place: u32) -> PostSet
         ensures is { result.bits ≡ cover_at self.now.cells.now place }
         ensures fits { result.bits < 2 ^ 64 }
@@ -92,7 +97,8 @@ impl Pool<'_> {
         PostSet::from_bits(low + high * 0x1_0000_0000)
     }
 
-    // The place of the stamp before the one at this place.
+    // The place of the stamp before the one at this place, put together as a cover is.
+    #[tactic(auto, unfolding(crate::specs::Layout::link_at))]
     fn link_at(&self, place: u32) -> u32
         ensures { result ≡ link_at self.now.cells.now place }
     {
@@ -100,63 +106,50 @@ impl Pool<'_> {
         self.cell(at + 6) as u32 + self.cell(at + 7) as u32 * 0x1_0000
     }
 
-    // How many stamps the post has.
-    fn count_of(&self, post: u8) -> u16
-        ensures { result ≡ slice_index self.now.index.counts post }
+    // What the index has of a post; of one past the last, nothing.
+    fn latest_of(&self, post: u8) -> Latest
+        ensures { result ≡ latest_of self.now.index.latest post }
     {
-        match self.index.counts.get(post as usize) {
-            Some(count) => *count,
-            None => 0,
-        }
-    }
-
-    // The place of the post's newest stamp.
-    fn newest_of(&self, post: u8) -> u32
-        ensures { result ≡ slice_index self.now.index.newest post }
-    {
-        match self.index.newest.get(post as usize) {
-            Some(place) => *place,
-            None => 0,
-        }
+        self.index
+            .latest
+            .get(post as usize)
+            .copied()
+            .unwrap_or_default()
     }
 
     // The cells that are not in use.
     fn left(&self) -> usize
         ensures { result ≡ length self.now.cells.now - self.now.index.used }
     {
-        self.cells.len().saturating_sub(self.index.used as usize)
+        self.cells.len() - self.index.used as usize
     }
 
     // The place of a held stamp: from the post's newest back along the links.
     fn find(&self, event: Event) -> Result<u32, KeeperFault>
-        ensures { Sound self.now.index self.now.cells.now → result ≡ finding self.now.index self.now.cells.now event }
+        ensures { Finds self.now.index self.now.cells.now event result }
     {
-        let mut number = self.count_of(event.post);
-        locate(self.index.posts, number, event)?;
-        let mut place = self.newest_of(event.post);
-        while number > event.number {
+        let latest = self.latest_of(event.post);
+        locate(self.index.posts, latest.count, event)?;
+        let mut place = latest.newest;
+        for _ in event.number..latest.count {
             place = self.link_at(place);
-            number -= 1;
         }
         Ok(place)
     }
 
     // Where a stamp with this cover and so many entries would end, if it goes in.
+    #[tactic(auto, using(crate::proofs::Questions::count_is, keeper::proofs::Admitted::admitted, crate::proofs::Questions::roomy))]
     fn room(&self, post: u8, cover: PostSet, entries: usize) -> Result<u32, KeeperFault>
         ensures { Rooms self.now.index self.now.cells.now post cover.bits entries result }
     {
-        let count = self.count_of(post);
+        let count = self.latest_of(post).count;
         admit(self.index.posts, count, self.left(), post, cover, entries)?;
-        let end = self.index.used as usize + HEADER + entries;
-        // Neither can be in a pool that was opened.
-        if post >= MAX_POSTS || end > u32::MAX as usize {
-            return Err(KeeperFault::Full);
-        }
-        Ok(end as u32)
+        Ok((self.index.used as usize + HEADER + entries) as u32)
     }
 }
 
 // Writes a stamp's cells from this place on.
+#[tactic(auto, using(crate::proofs::Cells::written_in_turn))]
 fn lay(cells: &mut [u16], at: usize, header: [u16; 8], entries: &[u16])
     requires { at + 8 + length entries.now ≤ length cells.old }
     ensures { cells.new ≡ with_stamp cells.old at header entries.now }
@@ -175,25 +168,26 @@ impl<'a> Keeper for Pool<'a> {
         self.index.posts
     }
 
+    #[tactic(auto, using(crate::proofs::Questions::count_is))]
     fn count(&self, post: u8) -> Result<u16, KeeperFault> {
-        if post >= self.index.posts {
-            return Err(KeeperFault::UnknownPost);
-        }
-        Ok(self.count_of(post))
+        known(self.index.posts, post)?;
+        Ok(self.latest_of(post).count)
     }
 
     fn space(&self, post: u8) -> Result<usize, KeeperFault> {
-        if post >= self.index.posts {
-            return Err(KeeperFault::UnknownPost);
-        }
+        known(self.index.posts, post)?;
         Ok(self.left())
     }
 
+    #[tactic(auto, unfolding(crate::specs::Layout::code_at))]
     fn kind(&self, event: Event) -> Result<Kind, KeeperFault> {
         let place = self.find(event)?;
-        Ok(kind_of(self.cell(place as usize) / 2 % 4))
+        let code = self.cell(place as usize) / 2 % 4;
+        // No stamp is laid with the code 3.
+        Ok(Kind::try_from(code as u8).unwrap_or(Kind::Receive))
     }
 
+    #[tactic(auto, unfolding(crate::specs::Layout::mark_at))]
     fn marked(&self, event: Event) -> Result<bool, KeeperFault> {
         let place = self.find(event)?;
         Ok(self.cell(place as usize) % 2 == 1)
@@ -204,6 +198,7 @@ impl<'a> Keeper for Pool<'a> {
         Ok(self.cover_at(place))
     }
 
+    #[tactic(auto, unfolding(crate::specs::Layout::full_at))]
     fn full(&self, event: Event) -> Result<u16, KeeperFault> {
         let place = self.find(event)?;
         Ok(self.cell(place as usize + 5))
@@ -220,22 +215,22 @@ impl<'a> Keeper for Pool<'a> {
 
     fn append(&mut self, post: u8, header: Header, entries: &[u16]) -> Result<(), KeeperFault> {
         let end = self.room(post, header.cover, entries.len())?;
+        let latest = self.latest_of(post);
         let place = self.index.used;
-        let cells = packed(post, header, self.newest_of(post));
+        let cells = packed(post, header, latest.newest);
         lay(self.cells, place as usize, cells, entries);
-        self.index.counts[post as usize] += 1;
-        self.index.newest[post as usize] = place;
+        self.index.latest[post as usize] = Latest {
+            count: latest.count + 1,
+            newest: place,
+        };
         self.index.used = end;
         Ok(())
     }
 
+    #[tactic(auto, using(crate::proofs::Marking::found_inside))]
     fn mark(&mut self, event: Event) -> Result<(), KeeperFault> {
         let place = self.find(event)?;
         let first = place as usize;
-        // It cannot be in a pool that was opened.
-        if first >= self.cells.len() {
-            return Err(KeeperFault::NotHeld);
-        }
         self.cells[first] = self.cells[first] / 2 * 2 + 1;
         Ok(())
     }
