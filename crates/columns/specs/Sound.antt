@@ -1,53 +1,46 @@
--- What a keeper by columns means, and when its cells lie as they should.
-use Rattle.std.specs.Prelude.{◌≡◌, ℕ, ◌+◌, ◌-◌, ◌*◌, ◌/◌, ◌<◌, ◌≤◌, cond, List, length, nat_lt, slice_index, slice_index_or}
+-- What columns mean, by their fields, and when their cells lie as they should.
+use Rattle.std.specs.Prelude.{◌≡◌, ℕ, ◌+◌, ◌-◌, ◌*◌, ◌/◌, ◌<◌, ◌≤◌, cond, List, length, nat_lt, slice_index_or}
 use Rattle.keeper.specs.Piles.{Pile, opened}
-use Rattle.columns.specs.Cells.{whole, cell_at}
-use Rattle.columns.specs.Layout.{place_at, end_at, stamp_cell, stamps_of}
-use Rattle.columns.specs.declared.Columns.{Columns}
+use Rattle.columns.specs.Cells.{Cell, cell_at}
+use Rattle.columns.specs.Layout.{place_at, end_at, stamps_of}
+use Rattle.columns.specs.declared.Fill.{Fill}
 
 -- The cells of a column, if so many bytes are cut for so many posts.
 abbrev pub column_width : ℕ → ℕ → ℕ
 column_width posts bytes = cond (nat_lt 0 (opened posts)) (bytes / 2 / opened posts) 0
 
 -- the cells at a column's front that its stamps take
-abbrev pub front_of : ℕ → ℕ → ℕ → ℕ
-front_of width n left = width - left - 2 * n
+abbrev pub front_of : ℕ → Fill → ℕ
+front_of width f = width - f.left - 2 * f.count
 
--- A column with n stamps and so many cells left. The stamps lie in its front, one after another, and none takes more
--- than 70 cells, so a place is a number of two cells.
-pub record Column (c : ℕ → ℕ) (start width n left : ℕ) : Type 0 where
-  pub room : left + 2 * n ≤ width
-  pub short : front_of width n left ≤ 70 * n
-  pub within : (k : ℕ) → k < n → end_at c start width k ≤ front_of width n left
-  pub apart : (j k : ℕ) → j < k → k < n → end_at c start width j ≤ place_at c start width k
+-- A column, so full. Its stamps lie in its front, one after another, and none takes more than 70 cells, so a place is a
+-- number of two cells.
+pub record Column (c : ℕ → ℕ) (start width : ℕ) (f : Fill) : Type 0 where
+  pub room : f.left + 2 * f.count ≤ width
+  pub short : front_of width f ≤ 70 * f.count
+  pub within : (k : ℕ) → k < f.count → end_at c start width k ≤ front_of width f
+  pub apart : (j k : ℕ) → j < k → k < f.count → end_at c start width j ≤ place_at c start width k
 
--- by the number of posts, a column's width, each post's count and space, and the bytes
-pub record Sound (posts width : ℕ) (counts left bytes : List ℕ) : Type 0 where
+-- a column as it is opened
+abbrev pub unused : ℕ → Fill
+unused width = record { count = 0; left = width }
+
+-- how full post q's column is; past the posts, unused
+abbrev pub fill_at : ℕ → List Fill → ℕ → Fill
+fill_at width fills q = slice_index_or fills q (unused width)
+
+-- by the number of posts, a column's width, each post's count and space, and the cells
+pub record Sound (posts width : ℕ) (fills : List Fill) (cells : List Cell) : Type 0 where
   pub few : posts ≤ 64
-  pub all_counted : length counts ≡ 64
-  pub all_left : length left ≡ 64
-  pub inside : posts * width ≤ whole bytes
-  pub columns : (q : ℕ) → q < posts → Column (cell_at bytes) (q * width) width (slice_index counts q) (slice_index_or left q width)
-  pub idle : (q : ℕ) → posts ≤ q → slice_index counts q ≡ 0
+  pub all : length fills ≡ 64
+  pub inside : posts * width ≤ length cells
+  pub columns : (q : ℕ) → q < posts → Column (cell_at cells) (q * width) width (fill_at width fills q)
+  pub idle : (q : ℕ) → posts ≤ q → (fill_at width fills q).count ≡ 0
 
-abbrev pub pile : (posts width : ℕ) (counts left bytes : List ℕ) → Pile
-pile posts width counts left bytes =
+abbrev pub pile : (posts width : ℕ) (fills : List Fill) (cells : List Cell) → Pile
+pile posts width fills cells =
     record {
       posts = posts;
-      stamps = λ q. stamps_of (cell_at bytes) (q * width) width (slice_index counts q);
-      space = λ q. slice_index_or left q width;
+      stamps = λ q. stamps_of (cell_at cells) (q * width) width (fill_at width fills q).count;
+      space = λ q. (fill_at width fills q).left;
     }
-
-abbrev pub sound_of : Columns → Type 0
-sound_of s = Sound s.posts s.width s.counts s.left s.bytes.now
-
-abbrev pub pile_of : Columns → Pile
-pile_of s = pile s.posts s.width s.counts s.left s.bytes.now
-
--- the cells that a keeper holds
-abbrev pub cells_of : Columns → ℕ → ℕ
-cells_of s = cell_at s.bytes.now
-
--- the cell at which stamp k of post p begins, from 1 on
-abbrev pub cell_of : Columns → ℕ → ℕ → ℕ
-cell_of s p k = stamp_cell (cells_of s) (p * s.width) s.width (k - 1)

@@ -17,168 +17,155 @@
 // Beside the bytes stand the number of posts, the width of a column, and for each post its count and the cells left.
 #![tactic(auto)]
 
-ghost use Rattle.std.specs.Prelude.{◌≡◌, ℕ, ◌+◌, ◌-◌, ◌*◌, ◌/◌, ◌^◌, ◌<◌, ◌≤◌, length, IfOk, Ok, ◌≢◌, slice_index, slice_index_or};
-ghost use Rattle.columns.specs.Cells.{whole, cell_at};
+ghost use Rattle.std.specs.Prelude.{◌≡◌, ℕ, ◌+◌, ◌-◌, ◌*◌, ◌/◌, ◌^◌, ◌<◌, ◌≤◌, length, IfOk, Ok, ◌≢◌};
+ghost use Rattle.columns.specs.Cells.{cell_at};
 ghost use Rattle.columns.specs.Layout.{Stored, Placed, Lies};
-ghost use Rattle.columns.specs.Sound.{column_width, sound_of, pile_of, cells_of, cell_of};
+ghost use Rattle.columns.specs.Sound.{Sound, pile, column_width, unused};
 ghost use Rattle.keeper.specs.Answers.{ask_stamp};
 ghost use Rattle.keeper.specs.Moves.{Appends, unmarked};
 ghost use Rattle.keeper.specs.Piles.{fresh, opened, stamp_of};
 ghost use Rattle.order.specs.Posts.{size};
-ghost use Rattle.order.specs.Records.{code as code_of, kind_named};
 
-use cells::{cell, pair, put_cell, word, write};
+use cells::{cell, copy, pair, put_cell, word, write};
 use keeper::Keeper;
-use keeper::admit::{Header, admit, locate};
+use keeper::admit::{Header, admit, known, locate, opened, price};
 use keeper::fault::KeeperFault;
 use order::event::{Event, Kind};
-use order::posts::{MAX_POSTS, PostSet};
+use order::posts::PostSet;
 
 mod cells;
 
+// What a stamp's first cell has more once it is marked: the layout has kind and mark in one cell.
+const MARK: u16 = 256;
+
+// How full a post's column is.
+#[derive(Clone, Copy)]
+struct Fill {
+    // its stamps
+    count: u16,
+    // the cells that the post may still use
+    left: usize,
+}
+
+impl Fill {
+    // That of a column as it is opened.
+    fn unused(width: usize) -> Fill
+        ensures { result ≡ unused width }
+    {
+        Fill {
+            count: 0,
+            left: width,
+        }
+    }
+}
+
 #[derive(Drop)]
 pub struct Columns<'a> {
-    bytes: &'a mut [u8],
+    cells: &'a mut [[u8; 2]],
     posts: u8,
     // The cells of a column.
     width: usize,
-    // For each post, how many stamps it has, and the cells that it may still use.
-    counts: [u16; 64],
-    left: [usize; 64],
+    // Room for 64 posts, as the project allows no heap here.
+    fills: [Fill; 64],
+    ghost sound: { Sound posts width fills cells.now },
+    // A `usize` counts their cells: of the slice that is known only where it is used.
+    ghost fits: { posts * width < 2 ^ 64 },
 }
 
 // Columns with no stamps. For more than 64 posts they are opened for none.
-pub fn open<'a>(posts: u8, bytes: &'a mut [u8]) -> Columns<'a>
-    ensures sound { sound_of result }
-    ensures meaning { pile_of result ≡ fresh (opened posts) (λ _. column_width posts (length bytes.old)) }
+pub fn open(posts: u8, bytes: &mut [u8]) -> Columns<'_>
+    ensures sound { Sound result.posts result.width result.fills result.cells.now }
+    ensures meaning { pile result.posts result.width result.fills result.cells.now ≡ fresh (opened posts) (λ _. column_width posts (length bytes.old)) }
 {
-    let posts = if posts <= MAX_POSTS { posts } else { 0 };
-    let width = if posts > 0 {
-        bytes.len() / 2 / posts as usize
-    } else {
-        0
-    };
+    let posts = opened(posts);
+    let width = (bytes.len() / 2).checked_div(posts as usize).unwrap_or(0);
     Columns {
-        bytes,
+        cells: bytes.as_chunks_mut().0,
         posts,
         width,
-        counts: [0; 64],
-        left: [width; 64],
-    }
-}
-
-// A kind's code, and the kind by its code.
-fn code(kind: Kind) -> u16
-    ensures { result ≡ code_of kind }
-{
-    match kind {
-        Kind::Local => 0,
-        Kind::Send => 1,
-        Kind::Receive => 2,
-    }
-}
-
-fn kind_by(code: u16) -> Kind
-    ensures { result ≡ kind_named code }
-{
-    match code {
-        0 => Kind::Local,
-        1 => Kind::Send,
-        _ => Kind::Receive,
+        fills: [Fill::unused(width); 64],
     }
 }
 
 // Puts a stamp, unmarked, at a cell.
-fn put_stamp(bytes: &mut [u8], at: usize, header: Header, entries: &[u16])
-    requires { at + 6 + length entries.now ≤ whole bytes.old }
-    ensures { size header.cover.bits ≡ length entries.now → Stored (cell_at bytes.old) (cell_at bytes.new) at (unmarked header entries.now) }
+fn put_stamp(cells: &mut [[u8; 2]], at: usize, header: Header, entries: &[u16])
+    requires inside { at + 6 + length entries.now ≤ length cells.old }
+    requires sized { size header.cover.bits ≡ length entries.now }
+    ensures { Stored (cell_at cells.old) (cell_at cells.new) at (unmarked header entries.now) }
 {
-    let bits = header.cover.bits();
-    let head = [
-        code(header.kind),
-        (bits / 281474976710656) as u16,
-        (bits / 4294967296 % 65536) as u16,
-        (bits / 65536 % 65536) as u16,
-        (bits % 65536) as u16,
-        header.full,
-    ];
-    write(bytes, at, &head);
-    write(bytes, at + 6, entries);
+    put_cell(cells, at, u16::from(u8::from(header.kind)));
+    let cover = header.cover.bits().to_be_bytes();
+    copy(cells, at + 1, cover.as_chunks().0);
+    put_cell(cells, at + 5, header.full);
+    write(cells, at + 6, entries);
 }
 
 // Puts a place, a number of two cells, at a cell.
-fn put_place(bytes: &mut [u8], at: usize, place: usize)
-    requires { at + 2 ≤ whole bytes.old }
-    ensures { place < 4294967296 → Placed (cell_at bytes.old) (cell_at bytes.new) at place }
+fn put_place(cells: &mut [[u8; 2]], at: usize, place: usize)
+    requires inside { at + 2 ≤ length cells.old }
+    requires short { place < 2 ^ 32 }
+    ensures { Placed (cell_at cells.old) (cell_at cells.new) at place }
 {
-    let high = (place / 65536 % 65536) as u16;
-    write(bytes, at, &[high, (place % 65536) as u16]);
+    let place = place as u32;
+    copy(cells, at, place.to_be_bytes().as_chunks().0);
 }
 
 impl Columns<'_> {
-    // How many stamps the post has.
-    fn count_of(&self, post: u8) -> u16
-        ensures { result ≡ slice_index self.now.counts post }
+    ghost use Rattle.columns.specs.Meaning.{pile_of, fill_of, cells_of, cell_of};
+
+    // How full the post's column is.
+    fn fill(&self, post: u8) -> Fill
+        ensures { result ≡ fill_of self.now post }
     {
-        match self.counts.get(post as usize) {
-            Some(count) => *count,
-            None => 0,
-        }
+        let fill = self.fills.get(post as usize);
+        fill.copied().unwrap_or(Fill::unused(self.width))
     }
 
-    // The cells that the post may still use.
-    fn left_of(&self, post: u8) -> usize
-        ensures { result ≡ slice_index_or self.now.left post self.now.width }
-    {
-        match self.left.get(post as usize) {
-            Some(left) => *left,
-            None => self.width,
-        }
-    }
-
-    // A cell; past the whole cells, 0.
+    // A cell; past the last, 0.
     fn cell(&self, i: usize) -> u16
         ensures { result ≡ cells_of self.now i }
     {
-        cell(self.bytes, i)
+        cell(self.cells, i)
     }
 
     // The first cell of a post's column.
+    #[tactic(auto, using(crate::proofs::Lanes::lanes_apart))]
     fn start_of(&self, post: u8) -> usize
-        ensures { post * self.now.width < 2 ^ 64 → result ≡ post * self.now.width }
+        requires { post < self.now.posts }
+        ensures { result ≡ post * self.now.width }
     {
-        self.width.saturating_mul(post as usize)
+        post as usize * self.width
     }
 
     // The first of the two cells that hold the place of a stamp.
+    #[tactic(auto, using(crate::proofs::Lanes::lanes_apart))]
     fn place_cell(&self, post: u8, number: usize) -> usize
-        ensures { post * self.now.width + self.now.width < 2 ^ 64 → result ≡ post * self.now.width + self.now.width - 2 * number }
+        requires known { post < self.now.posts }
+        requires inside { 2 * number ≤ self.now.width }
+        ensures { result ≡ post * self.now.width + self.now.width - 2 * number }
     {
-        let end = self.start_of(post).saturating_add(self.width);
-        end.saturating_sub(number.saturating_mul(2))
+        self.start_of(post) + self.width - 2 * number
     }
 
     // The cell at which a held stamp begins.
+    #[tactic(auto, using(crate::proofs::Answered::counted))]
     fn find(&self, event: Event) -> Result<usize, KeeperFault>
-        ensures within { IfOk result (λ at. at < whole self.now.bytes.now) }
-        ensures answer { sound_of self.now → result ≡ ask_stamp (pile_of self.now) event (λ _. Ok (cell_of self.now event.post event.number)) }
-        ensures lies { sound_of self.now → IfOk result (λ at. Lies (cells_of self.now) at (stamp_of (pile_of self.now) event.post event.number)) }
+        ensures within { IfOk result (λ at. (at + 6 ≤ length self.now.cells.now) × (at + 6 < 2 ^ 64)) }
+        ensures answer { result ≡ ask_stamp (pile_of self.now) event (λ _. Ok (cell_of self.now event.post event.number)) }
+        ensures lies { IfOk result (λ at. Lies (cells_of self.now) at (stamp_of (pile_of self.now) event.post event.number)) }
     {
-        locate(self.posts, self.count_of(event.post), event)?;
+        locate(self.posts, self.fill(event.post).count, event)?;
         let place = pair(
-            self.bytes,
+            self.cells,
             self.place_cell(event.post, event.number as usize),
         );
-        let at = self.start_of(event.post).saturating_add(place as usize);
-        // Never so in columns that were opened.
-        if at >= self.bytes.len() / 2 {
-            return Err(KeeperFault::NotHeld);
-        }
-        Ok(at)
+        Ok(self.start_of(event.post) + place as usize)
     }
 }
 
 impl<'a> Keeper for Columns<'a> {
+    ghost use Rattle.columns.specs.Meaning.{sound_of, pile_of};
+
     ghost meaning = { pile_of };
 
     ghost sound = { sound_of };
@@ -187,33 +174,32 @@ impl<'a> Keeper for Columns<'a> {
         self.posts
     }
 
+    #[tactic(auto, using(crate::proofs::Answered::counted))]
     fn count(&self, post: u8) -> Result<u16, KeeperFault> {
-        if post >= self.posts {
-            return Err(KeeperFault::UnknownPost);
-        }
-        Ok(self.count_of(post))
+        known(self.posts, post)?;
+        Ok(self.fill(post).count)
     }
 
     fn space(&self, post: u8) -> Result<usize, KeeperFault> {
-        if post >= self.posts {
-            return Err(KeeperFault::UnknownPost);
-        }
-        Ok(self.left_of(post))
+        known(self.posts, post)?;
+        Ok(self.fill(post).left)
     }
 
     fn kind(&self, event: Event) -> Result<Kind, KeeperFault> {
         let at = self.find(event)?;
-        Ok(kind_by(self.cell(at) % 256))
+        let code = (self.cell(at) % MARK) as u8;
+        // No stamp is put with another code.
+        Ok(Kind::try_from(code).unwrap_or(Kind::Receive))
     }
 
     fn marked(&self, event: Event) -> Result<bool, KeeperFault> {
         let at = self.find(event)?;
-        Ok(self.cell(at) / 256 == 1)
+        Ok(self.cell(at) / MARK == 1)
     }
 
     fn cover(&self, event: Event) -> Result<PostSet, KeeperFault> {
         let at = self.find(event)?;
-        Ok(PostSet::from_bits(word(self.bytes, at + 1)))
+        Ok(PostSet::from_bits(word(self.cells, at + 1)))
     }
 
     fn full(&self, event: Event) -> Result<u16, KeeperFault> {
@@ -223,45 +209,38 @@ impl<'a> Keeper for Columns<'a> {
 
     fn entry(&self, event: Event, post: u8) -> Result<u16, KeeperFault> {
         let at = self.find(event)?;
-        let cover = PostSet::from_bits(word(self.bytes, at + 1));
+        let cover = PostSet::from_bits(word(self.cells, at + 1));
         if !cover.contains(post) {
             return Err(KeeperFault::NotCovered);
         }
-        Ok(self.cell(at + 6 + cover.rank(post) as usize))
+        let entries = &self.cells[at + 6..];
+        Ok(cell(entries, cover.rank(post) as usize))
     }
 
     // What the trait says, and that the other posts' space stays as it is.
+    #[tactic(auto, using(crate::proofs::Answered::counted, crate::proofs::Answered::paid, keeper::proofs::Admitted::admitted))]
     fn append(&mut self, post: u8, header: Header, entries: &[u16]) -> Result<(), KeeperFault>
         ensures keeps { sound_of self.old → sound_of self.new × Appends (pile_of self.old) (pile_of self.new) post header entries.now result }
         ensures others { (q : ℕ) → (q ≢ post) → (pile_of self.new).space q ≡ (pile_of self.old).space q }
     {
-        let count = self.count_of(post);
-        let left = self.left_of(post);
+        let Fill { count, left } = self.fill(post);
         admit(self.posts, count, left, post, header.cover, entries.len())?;
-        let front = self
-            .width
-            .saturating_sub(left)
-            .saturating_sub(2 * count as usize);
-        let at = self.start_of(post).saturating_add(front);
-        let past = at.saturating_add(6 + entries.len());
+        let front = self.width - left - 2 * count as usize;
+        let at = self.start_of(post) + front;
         let back = self.place_cell(post, count as usize + 1);
-        let end = back.saturating_add(2);
-        let room = self.bytes.len() / 2;
-        // Never so in columns that were opened.
-        if post >= MAX_POSTS || past > back || end > room {
-            return Err(KeeperFault::Full);
-        }
-        put_stamp(self.bytes, at, header, entries);
-        put_place(self.bytes, back, front);
-        self.counts[post as usize] = count + 1;
-        self.left[post as usize] = left - entries.len() - 8;
+        put_stamp(self.cells, at, header, entries);
+        put_place(self.cells, back, front);
+        self.fills[post as usize] = Fill {
+            count: count + 1,
+            left: left - price(entries.len() as u8),
+        };
         Ok(())
     }
 
     fn mark(&mut self, event: Event) -> Result<(), KeeperFault> {
         let first = self.find(event)?;
-        let kind = self.cell(first) % 256;
-        put_cell(self.bytes, first, 256 + kind);
+        let kind = self.cell(first) % MARK;
+        put_cell(self.cells, first, MARK + kind);
         Ok(())
     }
 }

@@ -1,14 +1,11 @@
-use Rattle.std.proofs.Common.{ℕ, subst}
-use Rattle.columns.specs.Cells.{cell_at, Wrote}
-use Rattle.columns.proofs.Stamps.{heading, stored}
+use Rattle.std.proofs.Common.{◌∙◌, arith}
+use Rattle.columns.specs.Cells.{cell_at}
+use Rattle.columns.proofs.Stamps.{stored}
 use Rattle.columns.proofs.put_stamp.Goals as goal
 
 pub returns : goal.returns
 returns c =
-    λ sized.
-    stored (cell_at c.args.bytes.now) (cell_at c.write.new.bytes) (cell_at c.write-2.new.bytes) c.args.at c.args.header c.args.entries.now
-    (subst (λ (n : ℕ). Wrote (cell_at c.args.bytes.now) (cell_at c.write.new.bytes) c.args.at (heading n c.args.header.cover.bits c.args.header.full))
-    c.code.ensures
-    (subst (λ (n : ℕ). Wrote (cell_at c.args.bytes.now) (cell_at c.write.new.bytes) c.args.at (heading c.code.result n c.args.header.full))
-    c.bits-bits.ensures c.write.ensures))
-    c.write-2.ensures sized
+    stored _ (cell_at c.put_cell.new.cells) _ (cell_at c.put_cell-2.new.cells) _ c.args.at c.args.header c.args.entries.now
+    (omega arith) (c.put_cell.ensures.there ∙ c.from-2.ensures ∙ c.from.ensures) c.put_cell.ensures.elsewhere
+    (rw (c.as_chunks.ensures.front, c.to_be_bytes-cover.ensures, c.bits.ensures) at c.copy.ensures)
+    c.put_cell-2.ensures.there c.put_cell-2.ensures.elsewhere c.write.ensures c.requires.sized
