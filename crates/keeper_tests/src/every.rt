@@ -14,15 +14,11 @@ use std::test::Fail;
 // The posts 0 and 2.
 const PAIR: u64 = 5;
 
-fn draft(post: u8, kind: Kind, cover: u64, full: u16, entries: &[u16]) -> Draft<'_> {
-    Draft {
-        post,
-        header: Header {
-            kind,
-            cover: PostSet::from_bits(cover),
-            full,
-        },
-        entries,
+fn header(kind: Kind, cover: u64, full: u16) -> Header {
+    Header {
+        kind,
+        cover: PostSet::from_bits(cover),
+        full,
     }
 }
 
@@ -33,8 +29,16 @@ fn visited<K: Keeper>(
     first: Event,
     second: Event,
 ) -> Result<(), Fail> {
-    let one = draft(first.post, Kind::Send, PAIR, 7, &[5, 1]);
-    let two = draft(second.post, Kind::Receive, 7, 1, &[1, 0, 9]);
+    let one = Draft {
+        post: first.post,
+        header: header(Kind::Send, PAIR, 7),
+        entries: &[5, 1],
+    };
+    let two = Draft {
+        post: second.post,
+        header: header(Kind::Receive, 7, 1),
+        entries: &[1, 0, 9],
+    };
     let expected = Report {
         first: Told {
             put: Put {
@@ -42,10 +46,8 @@ fn visited<K: Keeper>(
                 paid: 10,
             },
             seen: Seen {
-                kind: Kind::Send,
+                header: header(Kind::Send, PAIR, 7),
                 marked: true,
-                cover: PostSet::from_bits(PAIR),
-                full: 7,
                 entry: Ok(1),
             },
         },
@@ -55,10 +57,8 @@ fn visited<K: Keeper>(
                 paid: 11,
             },
             seen: Seen {
-                kind: Kind::Receive,
+                header: header(Kind::Receive, 7, 1),
                 marked: false,
-                cover: PostSet::from_bits(7),
-                full: 1,
                 entry: Ok(9),
             },
         },
@@ -82,8 +82,8 @@ fn appends_refused<K: Keeper>(rt: &impl Abort, pile: &mut K) {
         (1, 0, &[], no_space),
     ];
     for (post, cover, entries, fault) in appends {
-        let stamp = draft(post, Kind::Local, cover, 0, entries);
-        assert_eq!(rt; pile.append(post, stamp.header, entries), Err(fault));
+        let local = header(Kind::Local, cover, 0);
+        assert_eq!(rt; pile.append(post, local, entries), Err(fault));
     }
 }
 

@@ -4,6 +4,7 @@ use keeper::admit::Header;
 use keeper::fault::KeeperFault;
 use order::event::{Event, Kind};
 use order::posts::PostSet;
+use std::array::from_fn;
 use std::process::Abort;
 use std::test::Fail;
 
@@ -13,6 +14,7 @@ fn opened<K: Keeper + Drop>(pile: K) -> (u8, [Option<usize>; 3]) {
     (pile.posts(), spaces)
 }
 
+// One for each keeper, since they lie over memory of different kinds.
 fn of_pool(posts: u8, cells: usize) -> (u8, [Option<usize>; 3]) {
     let mut memory = [0; 9];
     opened(pool::open(posts, &mut memory[0..cells.min(9)]))
@@ -58,6 +60,7 @@ fn many<K: Keeper + Drop>(rt: &impl Abort, mut pile: K, left: usize) -> Result<(
         cover: PostSet::first(1),
         full: 1,
     };
+    // Over the numbers, and below over the posts themselves: nothing is indexed.
     for number in 1..=65_535 {
         pile.append(0, header, &[number])?;
     }
@@ -82,11 +85,7 @@ fn numbers(rt: HostRuntime) -> Result<(), Fail> {
 }
 
 fn counted() -> [u16; 64] {
-    let mut values = [0; 64];
-    for i in 0..64u16 {
-        values[i as usize] = 1_000 + i;
-    }
-    values
+    from_fn(|i| 1_000 + i as u16)
 }
 
 // Keeps a stamp for all posts from one on, as bits, and reads every entry of it.

@@ -15,7 +15,8 @@ struct Slot {
     number: u16,
     marked: bool,
     header: Header,
-    // As many entries as the cover has posts, and then zeros.
+    // As many entries as the cover has posts, and then zeros. What a layer keeps is plain and of fixed size, as the project
+    // lays down.
     entries: [u16; 64],
 }
 
@@ -47,7 +48,8 @@ fn padded(entries: &[u16]) -> [u16; 64]
     all
 }
 
-// What the layer itself keeps: for each post the latest stamp, if it is known.
+// What the layer itself keeps: for each post the latest stamp, if it is known. The project allows no heap here, so there
+// is room for 64 posts.
 #[derive(Clone, Copy)]
 struct ShelfTable {
     slots: [Option<Slot>; 64],
@@ -72,6 +74,7 @@ impl ShelfTable {
     fn put(&mut self, post: u8, slot: Slot)
         ensures { self.new.slots ≡ put_at self.old.slots post slot }
     {
+        // By a test, since a proof knows no element after a write through `get_mut`.
         if post < MAX_POSTS {
             self.slots[post as usize] = Some(slot);
         }
@@ -122,6 +125,7 @@ impl<K: Keeper> Keeper for Shelf<K> {
         self.below.space(post)
     }
 
+    // As closures of `map_or_else` the two arms would read no plainer, here and in the next four.
     fn kind(&self, event: Event) -> Result<Kind, KeeperFault> {
         match self.table.find(event) {
             Some(slot) => Ok(slot.header.kind),

@@ -34,7 +34,12 @@ then (Err f) r = Err f
 
 -- what is told of a stamp, with its entry for post q
 abbrev pub seen_of : Stamp → ℕ → Seen
-seen_of s q = record { kind = s.kind; marked = s.marked; cover = record { bits = s.cover }; full = s.full; entry = cond (has s.cover q) (Ok (entry_of s q)) (Err NotCovered) }
+seen_of s q =
+    record {
+      header = record { kind = s.kind; cover = record { bits = s.cover }; full = s.full };
+      marked = s.marked;
+      entry = cond (has s.cover q) (Ok (entry_of s q)) (Err NotCovered);
+    }
 
 -- a stamp that went in has the post's next number, and its post has paid the price
 abbrev pub put_of : ℕ → Plan → Put

@@ -8,8 +8,7 @@ ghost use Rattle.piles.specs.Visits.{plan, seen_of, Puts, Reports};
 use keeper::Keeper;
 use keeper::admit::Header;
 use keeper::fault::KeeperFault;
-use order::event::{Event, Kind};
-use order::posts::PostSet;
+use order::event::Event;
 
 pub mod stacks;
 
@@ -31,10 +30,8 @@ pub struct Put {
 // What a keeper tells of a stamp, with the entry for one post.
 #[derive(Clone, Copy, PartialEq, Eq, Debug)]
 pub struct Seen {
-    pub kind: Kind,
+    pub header: Header,
     pub marked: bool,
-    pub cover: PostSet,
-    pub full: u16,
     pub entry: Result<u16, KeeperFault>,
 }
 
@@ -67,10 +64,12 @@ fn see<K: Keeper>(keeper: &K, event: Event, asked: u8) -> Result<Seen, KeeperFau
     ensures { K.Keeper.sound keeper.now → result ≡ ask_stamp (K.Keeper.meaning keeper.now) event (λ s. Ok (seen_of s asked)) }
 {
     Ok(Seen {
-        kind: keeper.kind(event)?,
+        header: Header {
+            kind: keeper.kind(event)?,
+            cover: keeper.cover(event)?,
+            full: keeper.full(event)?,
+        },
         marked: keeper.marked(event)?,
-        cover: keeper.cover(event)?,
-        full: keeper.full(event)?,
         entry: keeper.entry(event, asked),
     })
 }
