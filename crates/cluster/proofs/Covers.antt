@@ -1,6 +1,6 @@
 -- Covers and full events: what a cover has, which event is the latest full one, and where an entry that is not covered
 -- comes from.
-use Rattle.std.proofs.Common.{◌≡◌, ℕ, suc, ◌^◌, ◌<◌, ◌≤◌, true, false, ◌⊎◌, [], ◌∷◌, length, sym, refl, ap, ◌∙◌, subst, inl, inr, arith, pow_pos, pow_mono}
+use Rattle.std.proofs.Common.{◌≡◌, ℕ, suc, ◌^◌, ◌<◌, ◌≤◌, true, false, ◌⊎◌, [], ◌∷◌, length, sym, refl, ap, ◌∙◌, subst, inl, inr, arith, pow_pos}
 use lib.Bits.{or_lt}
 use lib.Pow.{ones_lt}
 use Rattle.std.proofs.lemmas.Bool.{cases_Bool, cases_eq, cases_lt, eq-eqb, ne_eqb, lt-ltb, both_ways}
@@ -31,7 +31,7 @@ size-all n l = size_first n (all n) l (λ q. let e = has_ones n q in grind (arit
 
 -- a member of a set of n digits is below n
 has_below : (b n q : ℕ) → b < 2 ^ n → has b q ≡ true → q < n
-has_below b n q l t = elim (cases_lt q n) [ inl k ↦ k | inr past ↦ absurd (both_ways _ (has_past b n q l past) t) ]
+has_below b n q l t = let past = has_past b n q l in grind (arith, nat_tests)
 
 -- ---- the cover of a record that no ground refuses
 
@@ -48,9 +48,6 @@ module _ (P : Rule) (n : ℕ) (h : History) (r : Bytes) (v : Valid n h) (g : gro
       go _ (within two t) = own
       go _ (merges two f says) = or_lt n (cluster P h (post r)) (cluster P h (partner_post r)) own (cluster_bits P v (partner_post r) ((passed n h r g).pair two).inside)
       go _ (passes two f says) = ones_lt n
-
-  pub cover_fits : n ≤ 64 → cover P n h r < 2 ^ 64
-  cover_fits most = omega (arith, cover_bits, pow_mono most)
 
   pub cover_posts : (q : ℕ) → has (cover P n h r) q ≡ true → q < n
   cover_posts q t = has_below (cover P n h r) n q cover_bits t
@@ -91,7 +88,7 @@ module _ (P : Rule) (n : ℕ) (h : History) (r : Bytes) (v : Valid n h) (g : gro
   cover_cluster = go (outcome P h r) refl
     where
       go : (o : Outcome) → outcome P h r ≡ o → (cluster P (r ∷ h) (post r) ≡ cover_by n o (cluster P h) r) ⊎ (o ≡ Across)
-      go Plain e = inl (cluster_same P h r (post r) (λ m. let z : ◌≡◌ {A = ℕ} 0 1 = cc in omega arith))
+      go Plain e = inl (cluster_same P h r (post r) (λ m. cc))
       go Merged e = inl (cluster_merged P h r (post r) e (to_merged (cluster P h) r (post r) (inl ((parted P v).own (post r) (passed n h r g).inside))))
       go Across e = inr refl
 
@@ -124,9 +121,6 @@ cover_at_bits P {n} (taken {r = r} {h = h} v g) p k held = go p k (at r h p k he
     go _ _ new ih = rw cover_at_new (cover_bits P n h r v g)
     go p k (old w) ih = omega (arith, cover_at_old P n r h p k w, ih w)
 
-pub cover_at_fits : (P : Rule) {n : ℕ} {h : History} → n ≤ 64 → Valid n h → (p k : ℕ) → k ≤ count h p → cover_at P n h p k < 2 ^ 64
-cover_at_fits P most v p k held = omega (arith, cover_at_bits P v p k held, pow_mono most)
-
 pub cover_at_posts : (P : Rule) {n : ℕ} {h : History} → Valid n h → (p k q : ℕ) → k ≤ count h p → has (cover_at P n h p k) q ≡ true → q < n
 cover_at_posts P {n} {h} v p k q held t = has_below (cover_at P n h p k) n q (cover_at_bits P v p k held) t
 
@@ -136,8 +130,8 @@ cover_at_own P start p k some held = absurd (omega (arith, count_none p))
 cover_at_own P {n} (taken {r = r} {h = h} v g) p k some held = go p k (at r h p k held) (λ w. cover_at_own P v p k some w)
   where
     go : (p k : ℕ) → At r h p k → (k ≤ count h p → has (cover_at P n h p k) p ≡ true) → has (cover_at P n (r ∷ h) p k) p ≡ true
-    go _ _ new ih = ap (λ (m : ℕ). has m (post r)) (cover_at_new P n r h) ∙ cover_own P n h r v g
-    go p k (old w) ih = ap (λ (m : ℕ). has m p) (cover_at_old P n r h p k w) ∙ ih w
+    go _ _ new ih = rw cover_at_new (cover_own P n h r v g)
+    go p k (old w) ih = rw (cover_at_old P n r h p k w) (ih w)
 
 -- an event is full, or what it covers is in its post's cluster
 pub cover_inside : (P : Rule) {n : ℕ} {h : History} → Valid n h → (p k : ℕ) → k ≤ count h p
@@ -183,10 +177,11 @@ latest_full_most P n [] p k held = omega (arith, latest_full_empty P n p k)
 latest_full_most P n (r ∷ h) p k held = go p k (at r h p k held) (λ p k w. latest_full_most P n h p k w)
   where
     go : (p k : ℕ) → At r h p k → ((p k : ℕ) → k ≤ count h p → latest_full P n h p k ≤ k) → latest_full P n (r ∷ h) p k ≤ k
-    go _ _ new ih = elim (cases_eq (cover P n h r) (all n)) [
-      | inl e ↦ omega (arith, latest_full_new P n r h e)
-      | inr ne ↦ omega (arith, latest_full_part P n r h ne, ih (post r) (count h (post r)) (omega arith))
-    ]
+    go _ _ new ih =
+        let full = latest_full_new P n r h in
+        let part = latest_full_part P n r h in
+        let before = ih (post r) (count h (post r)) (omega arith) in
+        grind arith
     go p k (old w) ih = omega (arith, latest_full_old P n r h p k w, ih p k w)
 
 pub latest_full_zero : (P : Rule) (n : ℕ) (h : History) (p : ℕ) → latest_full P n h p 0 ≡ 0

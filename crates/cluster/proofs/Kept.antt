@@ -1,13 +1,14 @@
 -- What is kept of events: entries by rank, what later records leave as it is, and that every entry comes back.
-use Rattle.std.proofs.Common.{◌≡◌, ℕ, zero, suc, ◌<◌, ◌≤◌, max, Bool, true, false, ◌&&◌, ◌||◌, eqb, List, [], ◌∷◌, ◌++◌, map, length, sym, refl, ap, ◌∙◌, inl, inr, arith}
+use Rattle.std.proofs.Common.{◌≡◌, ℕ, zero, suc, ◌<◌, ◌≤◌, max, Bool, true, false, ◌&&◌, eqb, List, [], ◌∷◌, ◌++◌, map, length, sym, refl, ap, ◌∙◌, inl, inr, arith}
 use mathlib.Core.Path.{fun_ext}
-use Rattle.std.proofs.lemmas.List.{length-map, get_or-map, map-append}
-use Rattle.std.proofs.lemmas.Bool.{cases_Bool, cases_eq, eq-eqb, ne_eqb, eqb-true, cond-true, cond-false, and_parts, and_from, and_left, and_right, or_from, or_left}
+use Rattle.std.proofs.lemmas.List.{get_or-map, map-append}
+use Rattle.std.proofs.lemmas.Bool.Decides.{nat_tests}
+use Rattle.std.proofs.lemmas.Bool.{cases_Bool, or_from}
 use Rattle.keeper.specs.Piles.{Stamp, entry_of, with_mark}
 use Rattle.order.specs.History.{History, Valid, count, ground, kind_at, received}
 use Rattle.order.specs.History.Valid.{start, taken}
-use Rattle.order.specs.Posts.{has, below, members, size}
-use Rattle.order.specs.Records.{Bytes, post, kind, number, partner_post, partner_number, receives, kind_named}
+use Rattle.order.specs.Posts.{has, below, members}
+use Rattle.order.specs.Records.{Bytes, post, kind, partner_post, partner_number, receives, kind_named}
 use Rattle.order.specs.Vectors.{vec}
 use Rattle.order.specs.declared.event.Kind.{Kind}
 use Rattle.order.proofs.Held.{passed, count_grows}
@@ -29,10 +30,6 @@ pub kept_full : (P : Rule) (n : ℕ) (h : History) (p k : ℕ) → (kept P n h p
 unfolding kept
 kept_full P n h p k = refl
 
-pub kept-length : (P : Rule) (n : ℕ) (h : History) (p k : ℕ) → length (kept P n h p k).entries ≡ size (cover_at P n h p k)
-unfolding kept
-kept-length P n h p k = length-map (members (cover_at P n h p k)) (vec h p k)
-
 -- the entry for a covered post is the vector's
 pub kept_entry : (P : Rule) (n : ℕ) (h : History) (p k q : ℕ) → q < 64 → has (cover_at P n h p k) q ≡ true → entry_of (kept P n h p k) q ≡ vec h p k q
 unfolding kept
@@ -44,25 +41,15 @@ kept_entry P n h p k q l t =
 
 pub kind_at_old : (n : ℕ) (r : Bytes) (h : History) → ground n h r ≡ 0 → (p k : ℕ) → k ≤ count h p → kind_at (r ∷ h) p k ≡ kind_at h p k
 unfolding kind_at
-kind_at_old n r h g p k held = cond-false _ _ _ (elim (cases_eq (post r) p) [
-  | inl same ↦ and_right (eqb (post r) p) (eqb (number r) k) (ne_eqb (number r) k (λ e. omega (arith, (passed n h r g).next, ap (count h) same)))
-  | inr ne ↦ and_left (eqb (post r) p) (eqb (number r) k) (ne_eqb (post r) p ne)
-])
+kind_at_old n r h g p k held = let next = (passed n h r g).next in grind (arith, nat_tests)
 
 pub kind_at_new : (n : ℕ) (r : Bytes) (h : History) → ground n h r ≡ 0 → kind_at (r ∷ h) (post r) (suc (count h (post r))) ≡ kind r
 unfolding kind_at
-kind_at_new n r h g = cond-true _ _ _ (and_from _ _ (eq-eqb (post r) (post r) refl) (eq-eqb (number r) (suc (count h (post r))) (passed n h r g).next))
+kind_at_new n r h g = let next = (passed n h r g).next in grind (arith, nat_tests)
 
 -- a receive names an event that is held
 names_held : (n : ℕ) (h : History) (r : Bytes) → ground n h r ≡ 0 → (p k : ℕ) → count h p < k → (receives r && (eqb (partner_post r) p && eqb (partner_number r) k)) ≡ false
-names_held n h r g p k past = elim (cases_eq (kind r) 2) [
-  | inl two ↦ and_right (receives r) (eqb (partner_post r) p && eqb (partner_number r) k) (elim (cases_eq (partner_post r) p) [
-    | inl same ↦ and_right (eqb (partner_post r) p) (eqb (partner_number r) k)
-        (ne_eqb (partner_number r) k (λ e. omega (arith, ((passed n h r g).pair two).most, ap (count h) same)))
-    | inr ne ↦ and_left (eqb (partner_post r) p) (eqb (partner_number r) k) (ne_eqb (partner_post r) p ne)
-  ])
-  | inr ne ↦ and_left (receives r) (eqb (partner_post r) p && eqb (partner_number r) k) (ne_eqb (kind r) 2 ne)
-]
+names_held n h r g p k past = let pair = (passed n h r g).pair in grind (arith, nat_tests)
 
 -- what is not held has not been received, and not by the next record either
 pub received_past : {n : ℕ} {h : History} → Valid n h → (p k : ℕ) → count h p < k → received h p k ≡ false
@@ -102,17 +89,11 @@ Names r p k = (kind r ≡ 2) × ((partner_post r ≡ p) × (partner_number r ≡
 
 pub received_named : (r : Bytes) (h : History) (p k : ℕ) → Names r p k → received (r ∷ h) p k ≡ true
 unfolding received
-received_named r h p k names = or_left _ _ (and_from _ _ (eq-eqb (kind r) 2 names.0) (and_from _ _ (eq-eqb (partner_post r) p names.1.0) (eq-eqb (partner_number r) k names.1.1)))
+received_named r h p k names = grind (arith, nat_tests)
 
 pub received_other : (r : Bytes) (h : History) (p k : ℕ) → (Names r p k → ⊥) → received (r ∷ h) p k ≡ received h p k
 unfolding received
-received_other r h p k none = elim (cases_Bool (receives r && (eqb (partner_post r) p && eqb (partner_number r) k))) [
-  | inl t ↦
-      let two = and_parts (receives r) (eqb (partner_post r) p && eqb (partner_number r) k) t in
-      let names = and_parts (eqb (partner_post r) p) (eqb (partner_number r) k) two.1 in
-      absurd (none (eqb-true (kind r) 2 two.0, (eqb-true (partner_post r) p names.0, eqb-true (partner_number r) k names.1)))
-  | inr f ↦ ap (λ (b : Bool). b || received h p k) f
-]
+received_other r h p k none = grind (arith, nat_tests)
 
 -- So a receive marks the stamp of the event that it names, and no other stamp changes.
 pub kept_marked : (P : Rule) (n : ℕ) (r : Bytes) (h : History) → ground n h r ≡ 0 → (p k : ℕ) → k ≤ count h p → Names r p k → kept P n (r ∷ h) p k ≡ with_mark (kept P n h p k)
@@ -154,31 +135,18 @@ pub largest_most : (f : ℕ → ℕ) (n b most : ℕ) → ((x : ℕ) → x < n �
 largest_most f zero b most each = omega (arith, ap (λ (xs : List ℕ). largest (map f xs)) (below_zero b))
 largest_most f (suc n) b most each =
     let r = largest_most f n b most (λ x l t. each x (omega arith) t) in
-    elim (cases_Bool (has b n)) [
-      | inl t ↦ omega (arith, largest_with f n b t, each n (omega arith) t)
-      | inr e ↦ omega (arith, largest_without f n b e)
-    ]
+    let with' = largest_with f n b in
+    let without = largest_without f n b in
+    let here = each n (omega arith) in
+    grind (arith, nat_tests)
 
 pub largest_least : (f : ℕ → ℕ) (n b x : ℕ) → x < n → has b x ≡ true → f x ≤ largest (map f (below n b))
 largest_least f zero b x l t = absurd (omega arith)
-largest_least f (suc n) b x l t = elim (cases_eq x n) [
-  | inl e ↦ omega (arith, largest_with f n b (ap (has b) (sym e) ∙ t), ap f e)
-  | inr ne ↦ let r = largest_least f n b x (omega arith) t in elim (cases_Bool (has b n)) [
-    | inl u ↦ omega (arith, largest_with f n b u)
-    | inr e ↦ omega (arith, largest_without f n b e)
-  ]
-]
-
--- ---- what is told
-
-told_nothing : (stamps : ℕ → ℕ → Stamp) (x m q : ℕ) → m ≡ 0 → told stamps x m q ≡ 0
-told_nothing stamps x m q z = when _ _ _ (eq-eqb m 0 z)
-
-told_none : (stamps : ℕ → ℕ → Stamp) (x m q : ℕ) → (m ≡ 0 → ⊥) → (stamps x m).full ≡ 0 → told stamps x m q ≡ 0
-told_none stamps x m q some z = unless _ _ _ (ne_eqb m 0 some) ∙ when _ _ _ (eq-eqb (stamps x m).full 0 z)
-
-told_by : (stamps : ℕ → ℕ → Stamp) (x m q : ℕ) → (m ≡ 0 → ⊥) → ((stamps x m).full ≡ 0 → ⊥) → told stamps x m q ≡ entry_of (stamps x (stamps x m).full) q
-told_by stamps x m q some full = unless _ _ _ (ne_eqb m 0 some) ∙ unless _ _ _ (ne_eqb (stamps x m).full 0 full)
+largest_least f (suc n) b x l t =
+    let r = λ (k : x < n). largest_least f n b x k t in
+    let with' = largest_with f n b in
+    let without = largest_without f n b in
+    grind (arith, nat_tests)
 
 -- ---- every entry comes back
 
@@ -190,8 +158,9 @@ module _ (P : Rule) (n : ℕ) (h : History) (most : n ≤ 64) (v : Valid n h) (q
   told_latest : (x m : ℕ) → m ≤ count h x → 0 < latest_full P n h x m → told (kept P n h) x m q ≡ vec h x (latest_full P n h x m) q
   told_latest x m held some =
       let e = kept_full P n h x m in
-      told_by (kept P n h) x m q (λ z. omega (arith, latest_full_most P n h x m held)) (λ z. omega arith)
-      ∙ ap (λ (f : ℕ). entry_of (kept P n h x f) q) e ∙ full_entry x (latest_full P n h x m) (latest_full_covers P n h x m held some)
+      let most = latest_full_most P n h x m held in
+      let entry = full_entry x (latest_full P n h x m) (latest_full_covers P n h x m held some) in
+      grind (arith, nat_tests)
 
   -- a later event of a post knows what an earlier one knows
   post_below : (x f m : ℕ) → m ≤ count h x → f ≤ m → vec h x f q ≤ vec h x m q
@@ -199,13 +168,11 @@ module _ (P : Rule) (n : ℕ) (h : History) (most : n ≤ 64) (v : Valid n h) (q
 
   -- what is told is known at the event up to which it is told, and is no less than what any full event up to it knows
   told_most : (x m : ℕ) → m ≤ count h x → told (kept P n h) x m q ≤ vec h x m q
-  told_most x m held = elim (cases_eq m 0) [
-    | inl z ↦ omega (arith, told_nothing (kept P n h) x m q z)
-    | inr some ↦ elim (cases_eq (latest_full P n h x m) 0) [
-      | inl z ↦ omega (arith, told_none (kept P n h) x m q some (kept_full P n h x m ∙ z))
-      | inr full ↦ omega (arith, told_latest x m held (omega arith), post_below x (latest_full P n h x m) m held (latest_full_most P n h x m held))
-    ]
-  ]
+  told_most x m held =
+      let e = kept_full P n h x m in
+      let latest = told_latest x m held in
+      let before = post_below x (latest_full P n h x m) m held (latest_full_most P n h x m held) in
+      grind (arith, nat_tests)
 
   told_least : (x m f : ℕ) → m ≤ count h x → 0 < f → f ≤ m → cover_at P n h x f ≡ all n → vec h x f q ≤ told (kept P n h) x m q
   told_least x m f held some less full =

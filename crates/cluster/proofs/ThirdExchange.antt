@@ -67,10 +67,10 @@ module _ (P : Rule) (by : ByTraffic 1 P) (fits : 2 ≤ P.limit) where
   -- a send, and a receive that is not a merge, leave the clusters as they are
   send_keeps : (h : History) (k p : ℕ) → cluster P (nth_send k ∷ h) p ≡ cluster P h p
   unfolding kind
-  send_keeps h k p = cluster_same P h (nth_send k) p (λ e. let z : ◌≡◌ {A = ℕ} 0 1 = cc in omega arith)
+  send_keeps h k p = cluster_same P h (nth_send k) p (λ e. cc)
 
   across_keeps : (h : History) (k p : ℕ) → outcome P h (nth_receive k) ≡ Across → cluster P (nth_receive k ∷ h) p ≡ cluster P h p
-  across_keeps h k p a = cluster_same P h (nth_receive k) p (λ e. let z : ◌≡◌ {A = ℕ} 0 1 = cc in omega arith)
+  across_keeps h k p a = cluster_same P h (nth_receive k) p (λ e. cc)
 
   one_single : (p : ℕ) → cluster P one_sent p ≡ 2 ^ p
   one_single p = send_keeps [] 1 p ∙ cluster_start P p

@@ -2,6 +2,7 @@ pub mod Clusters
 pub mod Counts
 pub mod Kept
 pub mod Laws
+pub mod Outcomes
 pub mod Partitions
 pub mod Policies
 pub mod Rules

@@ -7,22 +7,15 @@ ghost use Rattle.order.specs.Records.{Bytes, partner_post, post as post_of, rece
 
 use order::posts::{MAX_POSTS, PostSet};
 
-const PAIRS: usize = 4096;
-
-// A count for each receiving post and each sending post. A count at its largest value stays there.
+// For each receiving post a row of counts, one for each sending post. A count at its largest value stays there. The project
+// allows no heap here, so there is room for 64 posts.
 #[derive(Drop)]
 pub struct Exchanges {
-    counts: [u32; PAIRS],
+    counts: [[u32; 64]; 64],
 }
 
-// Where the count of a pair of posts stands.
-fn place(receiver: u8, sender: u8) -> usize
-    ensures { result ≡ receiver * 64 + sender }
-{
-    receiver as usize * 64 + sender as usize
-}
-
-// Whether two posts stand one in each of two sets.
+// Whether two posts stand one in each of two sets. A struct for the two sets would serve this and `row` alone, since
+// `between` takes them apart.
 fn linked(a: PostSet, b: PostSet, receiver: u8, sender: u8) -> bool
     ensures { result ≡ linked a.bits b.bits receiver sender }
 {
@@ -31,30 +24,35 @@ fn linked(a: PostSet, b: PostSet, receiver: u8, sender: u8) -> bool
 
 impl Exchanges {
     // No exchanges yet.
+    #[tactic(auto, using(crate::proofs::Counts::tells_none))]
     pub fn new() -> Exchanges
         ensures { Tells result [] }
     {
-        Exchanges { counts: [0; PAIRS] }
+        Exchanges {
+            counts: [[0; 64]; 64],
+        }
     }
 
+    // 0 for posts from 64 on.
     fn count(&self, receiver: u8, sender: u8) -> u32
         ensures { result ≡ told self.now receiver sender }
     {
         if receiver < MAX_POSTS && sender < MAX_POSTS {
-            self.counts[place(receiver, sender)]
+            self.counts[receiver as usize][sender as usize]
         } else {
             0
         }
     }
 
-    // Counts one more receive. Posts from 64 on are not counted.
+    // Counts one more receive. Posts from 64 on are not counted; by a test, since a proof knows no element after a write
+    // through `get_mut`.
     pub fn note(&mut self, receiver: u8, sender: u8)
         ensures counts { (p q : ℕ) → told self.new p q ≡ noted (told self.old) receiver sender p q }
         ensures tells { (h : History) (r : Bytes) → Tells self.old h → receives r ≡ true → post_of r ≡ receiver → partner_post r ≡ sender → receiver < 64 → sender < 64 → length h < 2 ^ 32 - 1 → Tells self.new (r ∷ h) }
     {
         if receiver < MAX_POSTS && sender < MAX_POSTS {
-            let at = place(receiver, sender);
-            self.counts[at] = self.counts[at].saturating_add(1);
+            let row = &mut self.counts[receiver as usize];
+            row[sender as usize] = row[sender as usize].saturating_add(1);
         }
     }
 
@@ -62,13 +60,10 @@ impl Exchanges {
     fn row(&self, receiver: u8, a: PostSet, b: PostSet) -> u32
         ensures { result ≡ capped (row_sum (told self.now) a.bits b.bits receiver) }
     {
-        let mut sum: u32 = 0;
-        for sender in 0..MAX_POSTS {
-            if linked(a, b, receiver, sender) {
-                sum = sum.saturating_add(self.count(receiver, sender));
-            }
-        }
-        sum
+        (0..MAX_POSTS)
+            .filter(|sender| linked(a, b, receiver, *sender))
+            .map(|sender| self.count(receiver, sender))
+            .fold(0, u32::saturating_add)
     }
 
     // The exchanges between two clusters, in both directions.
@@ -76,10 +71,7 @@ impl Exchanges {
         ensures sum { result ≡ capped (pair_sum (told self.now) a.bits b.bits) }
         ensures exchanges { (h : History) → Tells self.now h → length h < 2 ^ 32 → result ≡ exchanges_of h a.bits b.bits }
     {
-        let mut sum: u32 = 0;
-        for receiver in 0..MAX_POSTS {
-            sum = sum.saturating_add(self.row(receiver, a, b));
-        }
-        sum
+        let rows = (0..MAX_POSTS).map(|receiver| self.row(receiver, a, b));
+        rows.fold(0, u32::saturating_add)
     }
 }

@@ -4,7 +4,7 @@ ghost use Rattle.cluster.specs.Rules.{clamped, fit};
 
 use order::posts::MAX_POSTS;
 
-#[derive(Clone, Copy)]
+#[derive(Clone, Copy, PartialEq, Eq, Debug)]
 pub struct Limit {
     value: u8,
     ghost least: { 1 ≤ value },
@@ -12,7 +12,7 @@ pub struct Limit {
 }
 
 impl Limit {
-    // A limit of 0 counts as 1, and one above 64 as 64.
+    // A limit of 0 counts as 1, and one above 64 as 64. So this is no `From`, which would not show that it clamps.
     pub fn new(limit: u8) -> Limit
         ensures { result.value ≡ clamped limit }
     {
@@ -31,7 +31,6 @@ impl Limit {
     pub fn fits(self, own: u8, other: u8) -> bool
         ensures { result ≡ fit self.value own other }
     {
-        let posts = own as u16 + other as u16;
-        posts <= self.value as u16
+        u16::from(own) + u16::from(other) <= u16::from(self.value)
     }
 }

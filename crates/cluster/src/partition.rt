@@ -8,7 +8,8 @@ use order::posts::PostSet;
 mod calls;
 
 // For each post the set of its cluster's posts. Every post lies in exactly one cluster: a value with a post in two,
-// or in none, does not exist.
+// or in none, does not exist. The project allows no heap here, so the table has room for 64 posts, and their number
+// stands beside it.
 #[derive(Clone, Copy)]
 pub struct Partition {
     posts: u8,

@@ -6,7 +6,7 @@ ghost use Rattle.cluster_tests.specs.Elders.{elder};
 use cluster::limit::Limit;
 use cluster::policy::Policy;
 
-#[derive(Clone, Copy)]
+#[derive(Clone, Copy, PartialEq, Eq, Debug)]
 pub struct Elder {
     limit: Limit,
 }

@@ -4,67 +4,67 @@ use cluster::partition::Partition;
 use cluster::policy::{ByTraffic, FirstContact, Policy};
 use order::posts::PostSet;
 
-#[derive(Clone, Copy)]
-enum By {
-    First,
-    Traffic(u16),
-    Elder,
-}
-
 // The limit that counts, and the answer for two sizes and a number of exchanges.
 fn asked<P: Policy>(policy: &P, (own, other, exchanges): (u8, u8, u32)) -> (u8, bool) {
     (policy.limit(), policy.ask(own, other, exchanges))
 }
 
-fn answered(by: By, limit: u8, question: (u8, u8, u32)) -> (u8, bool) {
-    match by {
-        By::First => asked(&FirstContact::new(limit), question),
-        By::Traffic(rate) => asked(&ByTraffic::new(limit, rate), question),
-        By::Elder => asked(&Elder::new(limit), question),
+// A table for each policy, since one function for all would have to be able to stop a test.
+
+// Limits out of range; sizes that reach the limit, and pass it by one.
+#[test]
+fn first_contact(rt: HostRuntime) {
+    let table: [(u8, (u8, u8, u32), (u8, bool)); 12] = [
+        (0, (1, 1, 0), (1, false)),
+        (0, (1, 0, 0), (1, true)),
+        (1, (1, 1, 9), (1, false)),
+        (2, (1, 1, 0), (2, true)),
+        (2, (1, 2, 0), (2, false)),
+        (64, (32, 32, 0), (64, true)),
+        (64, (33, 32, 0), (64, false)),
+        (65, (32, 32, 0), (64, true)),
+        (65, (32, 33, 0), (64, false)),
+        (255, (1, 63, 0), (64, true)),
+        (255, (64, 1, 0), (64, false)),
+        (255, (255, 255, 4_294_967_295), (64, false)),
+    ];
+    for (limit, question, expected) in table {
+        assert_eq!(rt; asked(&FirstContact::new(limit), question), expected);
     }
 }
 
+// Exchanges that reach the rate, and miss it by one.
 #[test]
-fn policies(rt: HostRuntime) {
-    let table: [(By, u8, (u8, u8, u32), (u8, bool)); 27] = [
-        // limits out of range; sizes that reach the limit, and pass it by one
-        (By::First, 0, (1, 1, 0), (1, false)),
-        (By::First, 0, (1, 0, 0), (1, true)),
-        (By::First, 1, (1, 1, 9), (1, false)),
-        (By::First, 2, (1, 1, 0), (2, true)),
-        (By::First, 2, (1, 2, 0), (2, false)),
-        (By::First, 64, (32, 32, 0), (64, true)),
-        (By::First, 64, (33, 32, 0), (64, false)),
-        (By::First, 65, (32, 32, 0), (64, true)),
-        (By::First, 65, (32, 33, 0), (64, false)),
-        (By::First, 255, (1, 63, 0), (64, true)),
-        (By::First, 255, (64, 1, 0), (64, false)),
-        (By::First, 255, (255, 255, 4_294_967_295), (64, false)),
-        // exchanges that reach the rate, and miss it by one
-        (By::Traffic(0), 0, (1, 0, 0), (1, true)),
-        (By::Traffic(0), 2, (1, 1, 0), (2, true)),
-        (By::Traffic(1), 2, (1, 1, 1), (2, false)),
-        (By::Traffic(1), 2, (1, 1, 2), (2, true)),
-        (By::Traffic(1), 2, (2, 1, 9), (2, false)),
-        (By::Traffic(3), 65, (30, 34, 191), (64, false)),
-        (By::Traffic(3), 65, (30, 34, 192), (64, true)),
-        (By::Traffic(65_535), 64, (32, 32, 4_194_239), (64, false)),
-        (By::Traffic(65_535), 64, (32, 32, 4_194_240), (64, true)),
-        (
-            By::Traffic(65_535),
-            255,
-            (255, 255, 4_294_967_295),
-            (64, false),
-        ),
-        // not symmetric
-        (By::Elder, 4, (2, 1, 0), (4, true)),
-        (By::Elder, 4, (1, 2, 0), (4, false)),
-        (By::Elder, 4, (2, 2, 0), (4, true)),
-        (By::Elder, 4, (3, 2, 0), (4, false)),
-        (By::Elder, 0, (1, 1, 0), (1, false)),
+fn by_traffic(rt: HostRuntime) {
+    let table: [(u16, u8, (u8, u8, u32), (u8, bool)); 10] = [
+        (0, 0, (1, 0, 0), (1, true)),
+        (0, 2, (1, 1, 0), (2, true)),
+        (1, 2, (1, 1, 1), (2, false)),
+        (1, 2, (1, 1, 2), (2, true)),
+        (1, 2, (2, 1, 9), (2, false)),
+        (3, 65, (30, 34, 191), (64, false)),
+        (3, 65, (30, 34, 192), (64, true)),
+        (65_535, 64, (32, 32, 4_194_239), (64, false)),
+        (65_535, 64, (32, 32, 4_194_240), (64, true)),
+        (65_535, 255, (255, 255, 4_294_967_295), (64, false)),
     ];
-    for (by, limit, question, expected) in table {
-        assert_eq!(rt; answered(by, limit, question), expected);
+    for (rate, limit, question, expected) in table {
+        assert_eq!(rt; asked(&ByTraffic::new(limit, rate), question), expected);
+    }
+}
+
+// A policy that is not symmetric.
+#[test]
+fn elder(rt: HostRuntime) {
+    let table: [(u8, (u8, u8, u32), (u8, bool)); 5] = [
+        (4, (2, 1, 0), (4, true)),
+        (4, (1, 2, 0), (4, false)),
+        (4, (2, 2, 0), (4, true)),
+        (4, (3, 2, 0), (4, false)),
+        (0, (1, 1, 0), (1, false)),
+    ];
+    for (limit, question, expected) in table {
+        assert_eq!(rt; asked(&Elder::new(limit), question), expected);
     }
 }
 
@@ -86,11 +86,11 @@ fn shared(merges: [(u8, u8); 3], a: u8, b: u8) -> (bool, u32) {
 }
 
 fn all_merged() -> PostSet {
-    let mut partition = Partition::open(64);
-    for post in 0..63 {
-        partition = partition.merge(post, post + 1);
-    }
-    partition.cluster(31)
+    let merged = (0..63).fold(
+        Partition::open(64),
+        |partition, post| partition.merge(post, post + 1),
+    );
+    merged.cluster(31)
 }
 
 #[test]

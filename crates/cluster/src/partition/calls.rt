@@ -7,31 +7,26 @@ ghost use Rattle.keeper.specs.Piles.{opened};
 ghost use Rattle.order.specs.Posts.{has};
 
 use super::Partition;
+use keeper::admit::opened;
 use order::posts::{MAX_POSTS, PostSet};
+use std::array;
 
 // Each post alone.
 fn alone() -> [PostSet; 64]
     ensures { (q : ℕ) → q < 64 → bits_at result q ≡ 2 ^ q }
 {
-    let mut sets = [PostSet::empty(); 64];
-    for post in 0..MAX_POSTS {
-        let mut single = PostSet::empty();
-        single.insert(post);
-        sets[post as usize] = single;
-    }
-    sets
+    array::from_fn(|post| PostSet::from_bits(1 << post))
 }
 
 // The members of a set have it for their own; the other posts keep theirs.
-fn with_cluster(mut sets: [PostSet; 64], both: PostSet) -> [PostSet; 64]
-    ensures { (q : ℕ) → q < 64 → bits_at result q ≡ (if has both.bits q then both.bits else bits_at sets q) }
+fn with_cluster(sets: &[PostSet; 64], both: PostSet) -> [PostSet; 64]
+    ensures { (q : ℕ) → q < 64 → bits_at result q ≡ (if has both.bits q then both.bits else bits_at sets.now q) }
 {
-    for post in 0..MAX_POSTS {
-        if both.contains(post) {
-            sets[post as usize] = both;
-        }
-    }
-    sets
+    array::from_fn(|post| if both.contains(post as u8) {
+        both
+    } else {
+        sets[post]
+    })
 }
 
 impl Partition {
@@ -40,14 +35,14 @@ impl Partition {
         ensures posts { result.posts ≡ opened posts }
         ensures clusters { (q : ℕ) → clusters result q ≡ singles (opened posts) q }
     {
-        let known = if posts <= MAX_POSTS { posts } else { 0 };
         Partition {
-            posts: known,
+            posts: opened(posts),
             sets: alone(),
         }
     }
 
     // The number of posts, all of which the clusters part.
+    #[tactic(auto, using(crate::proofs::Partitions::parts))]
     pub fn posts(&self) -> u8
         ensures posts { result ≡ self.now.posts }
         ensures few { result ≤ 64 }
@@ -84,7 +79,7 @@ impl Partition {
         let both = self.cluster(a).union(self.cluster(b));
         Partition {
             posts: self.posts,
-            sets: with_cluster(self.sets, both),
+            sets: with_cluster(&self.sets, both),
         }
     }
 }

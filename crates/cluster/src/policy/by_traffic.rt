@@ -3,10 +3,10 @@ ghost use Rattle.std.specs.Prelude.{◌≡◌, ℕ, ◌&&◌};
 ghost use Rattle.cluster.specs.Policies.{by_traffic};
 ghost use Rattle.cluster.specs.Rules.{clamped, fit, busy};
 
-use super::super::limit::Limit;
 use super::Policy;
+use crate::limit::Limit;
 
-#[derive(Clone, Copy)]
+#[derive(Clone, Copy, PartialEq, Eq, Debug)]
 pub struct ByTraffic {
     limit: Limit,
     rate: u16,
@@ -32,7 +32,7 @@ impl Policy for ByTraffic {
     }
 
     fn ask(&self, own: u8, other: u8, exchanges: u32) -> bool {
-        let posts = own as u64 + other as u64;
-        self.limit.fits(own, other) && self.rate as u64 * posts <= exchanges as u64
+        let posts = u64::from(own) + u64::from(other);
+        self.limit.fits(own, other) && u64::from(self.rate) * posts <= u64::from(exchanges)
     }
 }

@@ -3,10 +3,10 @@ ghost use Rattle.std.specs.Prelude.{◌≡◌, ℕ};
 ghost use Rattle.cluster.specs.Policies.{first_contact};
 ghost use Rattle.cluster.specs.Rules.{clamped, fit};
 
-use super::super::limit::Limit;
 use super::Policy;
+use crate::limit::Limit;
 
-#[derive(Clone, Copy)]
+#[derive(Clone, Copy, PartialEq, Eq, Debug)]
 pub struct FirstContact {
     limit: Limit,
 }

@@ -1,15 +1,9 @@
-use Rattle.std.proofs.Common.{◌≡◌, ◌∙◌, arith}
+use Rattle.std.proofs.Common.{◌≡◌, ◌+◌, ◌∙◌, rules, arith}
+use Rattle.std.proofs.lemmas.Iterator.{YieldsList-from_range, YieldsList-from_map}
+use Rattle.std.proofs.lemmas.Iterator.Consumers.{fold_from_yields_List}
 use Rattle.cluster.specs.Counts.{capped, pair_sum, row_sum, told}
-use Rattle.cluster.proofs.Counts.{capped_none, capped_more, capped-all, exchanges_le, told-exchanges}
+use Rattle.cluster.proofs.Counts.{chained_rows, exchanges_le, told-exchanges}
 use Rattle.cluster.proofs.exchanges.Exchanges.between.Goals as goal
-
-pub loop-receiver-init : goal.loop-receiver-init
-loop-receiver-init c = capped_none (row_sum (told c.args.self.now) c.args.a.bits c.args.b.bits)
-
-pub loop-receiver-preserved : goal.loop-receiver-preserved
-loop-receiver-preserved c =
-    c.saturating_add-sum.ensures
-    ∙ capped_more c.loop-receiver.receiver c.loop-receiver.sum c.row.result (row_sum (told c.args.self.now) c.args.a.bits c.args.b.bits) c.loop-receiver.invariant c.row.ensures
 
 pub returns : goal.returns
 unfolding pair_sum
@@ -17,6 +11,10 @@ returns c =
     let table = c.args.self.now in
     let a = c.args.a.bits in
     let b = c.args.b.bits in
-    let e : c.loop-receiver.sum ≡ capped (pair_sum (told table) a b) =
-    capped-all c.loop-receiver.receiver c.loop-receiver.sum (row_sum (told table) a b) c.loop-receiver.invariant (omega arith) in
-    record { sum = e; exchanges = λ h t n. omega (arith, e, told-exchanges table h a b t, exchanges_le h a b) }
+    let f = row_sum (told table) a b in
+    let s : c.fold.result ≡ capped (pair_sum (told table) a b) =
+    fold_from_yields_List _ (λ a x. capped (a + x)) 0 _ c.fold.ensures.ran
+    (YieldsList-from_map _ (λ p. capped (f p)) (YieldsList-from_range 0 64 64 c.map-rows.ensures.source (omega arith)) c.map-rows.ensures.closure (λ x r q k. search rules))
+    (λ a x b q k. search rules)
+    ∙ chained_rows f in
+    record { sum = s; exchanges = λ h t n. omega (arith, s, told-exchanges table h a b t, exchanges_le h a b) }

@@ -1,28 +1,16 @@
-use Rattle.std.proofs.Common.{◌≡◌, sym, ◌∙◌, arith}
-use Rattle.cluster.specs.Counts.{capped, linked, linked_count, row_sum, told}
-use Rattle.cluster.proofs.Counts.{capped_none, capped_more, capped_skip, capped-all}
-use Rattle.std.proofs.lemmas.Bool.{cond-true, cond-false}
+use Rattle.std.proofs.Common.{◌+◌, ◌∙◌, rules, arith}
+use Rattle.std.proofs.lemmas.Iterator.{YieldsList-from_range, YieldsList-from_map}
+use Rattle.std.proofs.lemmas.Iterator.Consumers.{YieldsList-at, YieldsList-from_filter, fold_from_yields_List}
+use Rattle.cluster.specs.Counts.{capped, linked, row_sum, told}
+use Rattle.cluster.proofs.Counts.{chained_row}
 use Rattle.cluster.proofs.exchanges.Exchanges.row.Goals as goal
-use Rattle.cluster.proofs.exchanges.Exchanges.row.Goals.{then-linked, else-linked}
-
-pub loop-sender-init : goal.loop-sender-init
-loop-sender-init c = capped_none (linked_count (told c.args.self.now) c.args.a.bits c.args.b.bits c.args.receiver)
-
-pub loop-sender-preserved : goal.loop-sender-preserved
-loop-sender-preserved c =
-    let f = linked_count (told c.args.self.now) c.args.a.bits c.args.b.bits c.args.receiver in
-    let q = c.loop-sender.sender in
-    let t = linked c.args.a.bits c.args.b.bits c.args.receiver q in
-    let n = told c.args.self.now c.args.receiver q in
-    elim c.if-linked.branch [
-      | then-linked w ↦
-          let v : w.count.result ≡ capped (f q) = omega (arith, cond-true t n 0 (sym w.if-linked.ensures), w.count.ensures, w.count.type_inv) in
-          w.sum-is ∙ w.saturating_add-sum.ensures ∙ capped_more q c.loop-sender.sum w.count.result f c.loop-sender.invariant v
-      | else-linked w ↦ w.sum-is ∙ capped_skip q c.loop-sender.sum f c.loop-sender.invariant (cond-false t n 0 (sym w.if-linked.ensures))
-    ]
 
 pub returns : goal.returns
 unfolding row_sum
 returns c =
-    capped-all c.loop-sender.sender c.loop-sender.sum (linked_count (told c.args.self.now) c.args.a.bits c.args.b.bits c.args.receiver) c.loop-sender.invariant
-    (omega arith)
+    let f = told c.args.self.now c.args.receiver in
+    let t = linked c.args.a.bits c.args.b.bits c.args.receiver in
+    fold_from_yields_List _ (λ a x. capped (a + x)) 0 _ c.fold.ensures.ran
+    (YieldsList-from_map _ f (YieldsList-at c.map.ensures.source (YieldsList-from_filter _ t (YieldsList-from_range 0 64 64 c.filter.ensures.source (omega arith)) c.filter.ensures.closure (λ x r q k. search rules))) c.map.ensures.closure (λ x r q k. search rules))
+    (λ a x b q k. search rules)
+    ∙ chained_row f t
