@@ -1,5 +1,5 @@
 -- The entry of a drafted stamp.
-use Rattle.std.proofs.Common.{◌≡◌, ℕ, suc, ◌<◌, ◌≤◌, min, true, false, cond, List, ◌∷◌, map, length, take, Ok, Err, Result, sym, refl, ap, ◌∙◌, subst, ap₂, inl, inr, arith}
+use Rattle.std.proofs.Common.{◌≡◌, ℕ, suc, ◌<◌, ◌≤◌, true, false, cond, List, ◌∷◌, map, length, Ok, Err, Result, sym, refl, ap, ◌∙◌, subst, ap₂, inl, inr, arith}
 use lib.Bits.{bit_or}
 use Rattle.cluster.proofs.Clusters.{Ruled, ruled, cluster_same, cluster_merged, cluster_apart}
 use Rattle.cluster.proofs.Clusters.Ruled.{alone, within, merges, passes}
@@ -19,7 +19,6 @@ use Rattle.keeper.specs.Moves.{Appended, Appends, Marked, Marks, unmarked}
 use Rattle.keeper.specs.Piles.{Pile, held_count, price}
 use Rattle.keeper.specs.declared.fault.KeeperFault.{KeeperFault}
 use Rattle.order.proofs.Held.{Passed, passed, count_grows}
-use Rattle.order.proofs.PostSets.{length_below_le}
 use Rattle.order.specs.History.{History, Valid, count, ground}
 use Rattle.order.specs.Posts.{has, below, members, size}
 use Rattle.order.specs.Records.{Bytes, kind, number, partner_number, partner_post, post}
@@ -40,7 +39,7 @@ merging : (P : Rule) (h : History) (b : Bytes) → outcome P h b ≡ Merged → 
 merging P h b e = go (outcome P h b) (ruled P (cluster P h) h b) e
   where
     go : (o : Outcome) → Ruled P (cluster P h) h b o → o ≡ Merged → kind b ≡ 2
-    go _ (alone ne) m = let z : ◌≡◌ {A = ℕ} 0 1 = cc in absurd (omega arith)
+    go _ (alone ne) m = cc
     go _ (within two _) m = two
     go _ (merges two f says) m = two
     go _ (passes two f says) m = two
@@ -68,16 +67,16 @@ module _ (P : Rule) (n : ℕ) (h : History) (b : Bytes) (g : ground n h b ≡ 0)
 
 -- The pile.
 
-module _ (P : Rule) (n : ℕ) (h : History) (b : Bytes) (v : Valid n h) (few : n ≤ 64) (g : ground n h b ≡ 0) (small : number b ≤ 65535)
-    (m : Pile) (posts : m.posts ≡ n) (held : Holds P n m h) (d : Draft) (dr : Drafted P n h b d)
-    (entries : List ℕ) (are : entries ≡ take (min d.cut.len 64) d.cut.entries) where
+module _ {P : Rule} {n : ℕ} {h : History} {b : Bytes} {m : Pile} {d : Draft} (v : Valid n h) (few : n ≤ 64) (small : number b ≤ 65535) (posts : m.posts ≡ n) (held : Holds P n m h)
+    (dr : Drafted P n h b d) (entries : List ℕ) (are : entries ≡ d.entries.items) where
+  g : ground n h b ≡ 0
+  g = dr.due.fine
+
   next : number b ≡ suc (count h (post b))
   next = (passed n h b g).next
 
   entries_are : entries ≡ map (vec (b ∷ h) (post b) (suc (count h (post b)))) (members (cover P n h b))
-  entries_are =
-      let all : min d.cut.len 64 ≡ d.cut.len = omega (arith, dr.len_is, length_below_le 64 (cover P n h b)) in
-      are ∙ ap (λ (x : ℕ). take x d.cut.entries) all ∙ dr.entries_are ∙ ap (λ (k : ℕ). map (vec (b ∷ h) (post b) k) (members (cover P n h b))) next
+  entries_are = are ∙ dr.entries_are ∙ ap (λ (k : ℕ). map (vec (b ∷ h) (post b) k) (members (cover P n h b))) next
 
   entries_count : length entries ≡ size (cover P n h b)
   entries_count = ap length entries_are ∙ length-map (members (cover P n h b)) _
@@ -88,7 +87,7 @@ module _ (P : Rule) (n : ℕ) (h : History) (b : Bytes) (v : Valid n h) (few : n
       (λ i. record { kind = dr.kind_is i; marked = false; cover = dr.cover_is i; full = full i; entries = entries_are i }) ∙ sym (kept_new P n b h v g)
 
   same_post : d.«record».event.post ≡ post b
-  same_post = ap (λ (x : Record). x.event.post) dr.record_is
+  same_post = ap (λ (x : Record). x.event.post) dr.due.is
 
   pub admitted : ask_append m d.«record».event.post d.header.cover.bits (length entries) ≡ room_for P n h b (m.space (post b))
   unfolding room_for
@@ -100,7 +99,7 @@ module _ (P : Rule) (n : ℕ) (h : History) (b : Bytes) (v : Valid n h) (few : n
       (λ i. ask_append m (same_post i) (dr.cover_is i) (entries_count i))
       ∙ cond-true _ _ _ (lt-ltb (post b) m.posts inside) ∙ cond-true _ _ _ fit ∙ cond-true _ _ _ (lt-ltb (held_count m (post b)) 65535 room)
 
-  module _ (is : Pile) (r : Result (Unit {0}) KeeperFault) (a : Appends m is d.«record».event.post d.header entries r) where
+  module _ {is : Pile} {r : Result (Unit {0}) KeeperFault} (a : Appends m is d.«record».event.post d.header entries r) where
     pub answered : r ≡ room_for P n h b (m.space (post b))
     answered = a.answer ∙ admitted
 
@@ -130,12 +129,12 @@ module _ (P : Rule) (n : ℕ) (h : History) (b : Bytes) (v : Valid n h) (few : n
             let inside : partner_post b < is.posts = omega (arith, appended.same_posts, posts, pair.inside) in
             let count_is = grown_counts P n h b v g m is held (unmarked d.header entries) stamp_is appended (partner_post b) pair.inside in
             let most : partner_number b ≤ held_count is (partner_post b) = omega (arith, count_is, pair.most, count_grows b h (partner_post b)) in
-            ap (λ (x : Record). ask_mark is x.partner) dr.record_is
+            ap (λ (x : Record). ask_mark is x.partner) dr.due.is
             ∙ cond-true _ _ _ (lt-ltb (partner_post b) is.posts inside)
             ∙ cond-true _ _ _ (and_from _ _ (lt-ltb 0 (partner_number b) pair.some) (le-leb (partner_number b) (held_count is (partner_post b)) most))
 
         marked_so : Marked is last (partner_post b) (partner_number b)
-        marked_so = subst (λ (x : Record). Marked is last x.partner.post x.partner.number) dr.record_is (MatchResult-at_ok _ _ tt (k.answer ∙ marks_it) k.leaves)
+        marked_so = subst (λ (x : Record). Marked is last x.partner.post x.partner.number) dr.due.is (MatchResult-at_ok _ _ tt (k.answer ∙ marks_it) k.leaves)
 
         pub stamped_receive : (table : Exchanges) → Tells table (b ∷ h) → Stamped P n h b m last table
         stamped_receive table tells = record {

@@ -1,15 +1,17 @@
 -- What is found of a record, ground by ground.
-use Rattle.std.proofs.Common.{◌≡◌, ℕ, suc, ◌+◌, ◌<◌, ◌≤◌, Bool, true, false, cond, not, eqb, Ok, Err, Result, sym, refl, ap, ◌∙◌, inl, inr, arith}
-use Rattle.order.proofs.Forms.{Formed, formed}
+use Rattle.std.proofs.Common.{inl, inr, ◌≡◌, ℕ, suc, ◌+◌, ◌-◌, ◌<◌, ◌≤◌, true, false, cond, not, eqb, Some, None, Ok, Err, Option, Result, sym, refl, ap, ◌∙◌, arith}
+use Rattle.order.proofs.Forms.{Formed, code_named, formed}
 use Rattle.order.specs.History.{History, count, held, kind_at, received, ground, partner_ground}
 use Rattle.order.specs.Reads.{ground as ground_of, record_of}
-use Rattle.order.specs.Records.{Bytes, post, kind, number, partner, form, kind_named}
+use Rattle.order.specs.Records.{Bytes, post, kind, number, partner, form, kind_named, code}
 use Rattle.order.specs.declared.event.Event.{Event}
-use Rattle.order.specs.declared.event.Kind.TheVariants.{Local, Send, Receive}
+use Rattle.order.specs.declared.event.Kind.TheVariants.{Receive}
 use Rattle.order.specs.declared.«record».Record.{Record}
 use Rattle.order.specs.declared.«record».RecordFault.{RecordFault}
 use Rattle.order.specs.declared.«record».RecordFault.TheVariants.{WrongLength, UnknownKind, UnknownPost, StrayBytes, WrongPartner}
-use Rattle.std.proofs.lemmas.Bool.{eq-eqb, ne_eqb, eqb-true, cases_eq, cond-true, cond-false, not_from_true, not_from_false}
+use Rattle.std.proofs.lemmas.Bool.{cases_eq, eq-eqb, ne_eqb}
+use Rattle.std.proofs.lemmas.Bool.Decides.{nat_tests}
+use Rattle.std.specs.Option.{SomeIff, option_eq}
 use Rattle.station.proofs.Reading.{held_known, not_held}
 use Rattle.station.specs.Asks.{knows}
 use Rattle.station.specs.Takes.{judged, partner_judged, verdict, refusal}
@@ -51,7 +53,7 @@ same_verdict x g k e = ap (λ (n : ℕ). verdict n x) (sym e)
 
 ground_formed : (n : ℕ) (h : History) (r : Bytes) (g : ℕ) → suc g ≡ form n r → ground n h r ≡ suc g
 unfolding ground
-ground_formed n h r g e = cond-true _ _ _ (not_from_false _ (ne_eqb (form n r) 0 (omega arith))) ∙ sym e
+ground_formed n h r g e = rw (← e, ne_eqb (suc g) 0 (omega arith)) refl
 
 pub ground_form : (n : ℕ) (h : History) (r : Bytes) (f : RecordFault) → ground_of f ≡ form n r → Err (IllFormed f) ≡ judged n h r
 unfolding verdict
@@ -63,45 +65,46 @@ ground_form n h r WrongPartner e = same_verdict (record_of r) _ _ (ground_formed
 
 pub ground_8 : (n : ℕ) (h : History) (r : Bytes) → form n r ≡ 0 → (number r ≡ suc (count h (post r)) → ⊥) → ground n h r ≡ 8
 unfolding ground
-ground_8 n h r e ne = cond-false _ _ _ (not_from_true _ (eq-eqb (form n r) 0 e)) ∙ cond-true _ _ _ (not_from_false _ (ne_eqb (number r) (suc (count h (post r))) ne))
+ground_8 n h r e ne = rw (e, ne_eqb (number r) (suc (count h (post r))) ne) refl
 
 pub ground_receive : (n : ℕ) (h : History) (r : Bytes) → form n r ≡ 0 → number r ≡ suc (count h (post r)) → kind r ≡ 2 → ground n h r ≡ partner_ground h r
 unfolding ground
-ground_receive n h r e next two =
-    cond-false _ _ _ (not_from_true _ (eq-eqb (form n r) 0 e)) ∙ cond-false _ _ _ (not_from_true _ (eq-eqb (number r) (suc (count h (post r))) next)) ∙ cond-true _ _ _ (eq-eqb (kind r) 2 two)
+ground_receive n h r e next two = rw (e, eq-eqb (number r) (suc (count h (post r))) next, eq-eqb (kind r) 2 two) refl
 
 pub ground_other : (n : ℕ) (h : History) (r : Bytes) → form n r ≡ 0 → number r ≡ suc (count h (post r)) → (kind r ≡ 2 → ⊥) → ground n h r ≡ 0
 unfolding ground
-ground_other n h r e next ne =
-    cond-false _ _ _ (not_from_true _ (eq-eqb (form n r) 0 e)) ∙ cond-false _ _ _ (not_from_true _ (eq-eqb (number r) (suc (count h (post r))) next)) ∙ cond-false _ _ _ (ne_eqb (kind r) 2 ne)
+ground_other n h r e next ne = rw (e, eq-eqb (number r) (suc (count h (post r))) next, ne_eqb (kind r) 2 ne) refl
 
 -- A refusal is the same whatever would be answered otherwise.
-pub verdict_err : {A B : Type 0} (g : ℕ) (x : A) (y : B) (f : TakeFault) → Err f ≡ verdict g x → Err f ≡ verdict g y
+verdict_err : {A B : Type 0} (g : ℕ) (x : A) (y : B) (f : TakeFault) → Err f ≡ verdict g x → Err f ≡ verdict g y
 unfolding verdict
-verdict_err {A = A} {B = B} g x y f = go (eqb g 0)
-  where
-    go : (t : Bool) → Err f ≡ (elim t as (λ _. Result A TakeFault) [ true ↦ Ok x | false ↦ Err (refusal g) ])
-        → Err f ≡ (elim t as (λ _. Result B TakeFault) [ true ↦ Ok y | false ↦ Err (refusal g) ])
-    go true e = let z : ◌≡◌ {A = ℕ} 0 1 = cc in absurd (omega arith)
-    go false e = let s : f ≡ refusal g = cc in ap Err s
+verdict_err {A} {B} g x y f e = elim (cases_eq g 0) [
+  | inl none ↦ let z : ◌≡◌ {A = Result A TakeFault} (Err f) (Ok x) = rw (eq-eqb g 0 none, verdict) at e in absurd (cc)
+  | inr some ↦ let z : ◌≡◌ {A = Result A TakeFault} (Err f) (Err (refusal g)) = rw (ne_eqb g 0 some, verdict) at e in rw (ne_eqb g 0 some, verdict) (cc)
+]
 
 pub verdict_ok : {A : Type 0} (g : ℕ) (x y : A) → Ok x ≡ verdict g y → g ≡ 0
 unfolding verdict
-verdict_ok {A = A} g x y = go (eqb g 0) refl
-  where
-    go : (t : Bool) → eqb g 0 ≡ t → Ok x ≡ (elim t as (λ _. Result A TakeFault) [ true ↦ Ok y | false ↦ Err (refusal g) ]) → g ≡ 0
-    go true t e = eqb-true g 0 t
-    go false t e = let z : ◌≡◌ {A = ℕ} 0 1 = cc in absurd (omega arith)
+verdict_ok {A} g x y e = elim (cases_eq g 0) [
+  | inl none ↦ none
+  | inr some ↦ let z : ◌≡◌ {A = Result A TakeFault} (Ok x) (Err (refusal g)) = rw (ne_eqb g 0 some, verdict) at e in absurd (cc)
+]
 
 -- a kind that is read as a receive has the code 2
 pub receive_code : (k : ℕ) → k ≤ 2 → kind_named k ≡ Receive → k ≡ 2
-receive_code k most e = elim (cases_eq k 0) [
-  | inl zero ↦ let z : Local ≡ Receive = sym (cond-true _ _ _ (eq-eqb k 0 zero)) ∙ e in let w : ◌≡◌ {A = ℕ} 0 1 = cc in absurd (omega arith)
-  | inr some ↦ elim (cases_eq k 1) [
-    | inl one ↦ let z : Send ≡ Receive = sym (cond-false _ _ _ (ne_eqb k 0 some) ∙ cond-true _ _ _ (eq-eqb k 1 one)) ∙ e in let w : ◌≡◌ {A = ℕ} 0 1 = cc in absurd (omega arith)
-    | inr more ↦ omega arith
-  ]
-]
+receive_code k most e = sym (code_named k most) ∙ ap code e
+
+-- Whether a number is the next after a count, by the number before it.
+
+turn : (n k : ℕ) (before : Option ℕ) → SomeIff before (1 ≤ n) (n - 1) → option_eq eqb before (Some k) ≡ eqb n (k + 1)
+turn n k None none = sym (ne_eqb n (k + 1) (λ e. none (omega arith)))
+turn n k (Some m) some = grind (arith, nat_tests)
+
+in_turn : (n k : ℕ) (before : Option ℕ) → SomeIff before (1 ≤ n) (n - 1) → not (option_eq eqb before (Some k)) ≡ false → n ≡ k + 1
+in_turn n k before is same = let t = turn n k before is in grind (arith, nat_tests)
+
+not_in_turn : (n k : ℕ) (before : Option ℕ) → SomeIff before (1 ≤ n) (n - 1) → not (option_eq eqb before (Some k)) ≡ true → n ≡ k + 1 → ⊥
+not_in_turn n k before is other e = let t = turn n k before is in grind (arith, nat_tests)
 
 -- The exits of judging, by what was read on the way.
 module _ (n m : ℕ) (h : History) (b : Bytes) (same : m ≡ n) where
@@ -124,34 +127,35 @@ module _ (n m : ℕ) (h : History) (b : Bytes) (same : m ≡ n) where
     pub inside : r.event.post < n
     inside = omega (arith, shape, same_post)
 
-    module _ (k : ℕ) (counted : r.event.post < n → k ≡ count h r.event.post) where
+    module _ (k : ℕ) (counted : r.event.post < n → k ≡ count h r.event.post) (before : Option ℕ) (before_is : SomeIff before (1 ≤ r.event.number) (r.event.number - 1)) where
       counted_here : k ≡ count h (post b)
       counted_here = counted inside ∙ ap (count h) same_post
 
-      pub out_of_turn : (r.event.number ≡ k + 1 → ⊥) → Err OutOfTurn ≡ judged n h b
+      pub out_of_turn : true ≡ not (option_eq eqb before (Some k)) → Err OutOfTurn ≡ judged n h b
       unfolding verdict
-      out_of_turn ne = same_verdict (record_of b) _ _ (ground_8 n h b form_fine (λ e. ne (omega (arith, e, same_number, counted_here))))
+      out_of_turn out = same_verdict (record_of b) _ _ (ground_8 n h b form_fine (λ e. not_in_turn _ k before before_is (sym out) (omega (arith, e, same_number, counted_here))))
 
-      module _ (turn : r.event.number ≡ k + 1) where
+      module _ (fits : false ≡ not (option_eq eqb before (Some k))) where
         next : number b ≡ suc (count h (post b))
-        next = omega (arith, turn, same_number, counted_here)
+        next = omega (arith, in_turn _ k before before_is (sym fits), same_number, counted_here)
 
         receiving : r.kind ≡ Receive → kind b ≡ 2
         receiving e = receive_code (kind b) shape.kinds (sym (ap (λ (x : Record). x.kind) is) ∙ e)
-
-        pub partner_inside : r.kind ≡ Receive → r.partner.post < n
-        partner_inside e = omega (arith, (shape.other (receiving e)).0, ap (λ (x : Record). x.partner.post) is)
-
-        pub partner_refuses : r.kind ≡ Receive → (f : TakeFault) (p : Result (Unit {0}) TakeFault) → p ≡ partner_judged h b → p ≡ Err f → Err f ≡ judged n h b
-        partner_refuses e f p judged_so refused =
-            verdict_err (ground n h b) tt (record_of b) f (sym refused ∙ judged_so ∙ same_verdict tt _ _ (ground_receive n h b form_fine next (receiving e)))
-
-        pub partner_accepts : r.kind ≡ Receive → (p : Result (Unit {0}) TakeFault) → p ≡ partner_judged h b → p ≡ Ok tt → Ok r ≡ judged n h b
-        unfolding verdict
-        partner_accepts e p judged_so passed =
-            ap Ok is ∙ same_verdict (record_of b) _ 0 (ground_receive n h b form_fine next (receiving e) ∙ verdict_ok (partner_ground h b) tt tt (sym passed ∙ judged_so))
 
         pub no_receive : (r.kind ≡ Receive → ⊥) → Ok r ≡ judged n h b
         unfolding verdict
         no_receive ne =
             ap Ok is ∙ same_verdict (record_of b) _ 0 (ground_other n h b form_fine next (λ two. ne (ap (λ (x : Record). x.kind) is ∙ ap kind_named two)))
+
+        module _ (receive : r.kind ≡ Receive) (p : Result (Unit {0}) TakeFault) (found : (b : Bytes) → partner b ≡ r.partner → r.partner.post < n → p ≡ partner_judged h b) where
+          partner_found : p ≡ verdict (ground n h b) tt
+          partner_found =
+              found b (sym (ap (λ (x : Record). x.partner) is)) (omega (arith, (shape.other (receiving receive)).0, ap (λ (x : Record). x.partner.post) is))
+              ∙ same_verdict tt _ _ (ground_receive n h b form_fine next (receiving receive))
+
+          pub partner_refuses : (f : TakeFault) → p ≡ Err f → Err f ≡ judged n h b
+          partner_refuses f refused = verdict_err (ground n h b) tt (record_of b) f (sym refused ∙ partner_found)
+
+          pub partner_accepts : (u : Unit {0}) → p ≡ Ok u → Ok r ≡ judged n h b
+          unfolding verdict
+          partner_accepts u passed = ap Ok is ∙ same_verdict (record_of b) _ 0 (verdict_ok (ground n h b) u tt (sym passed ∙ partner_found))

@@ -3,9 +3,11 @@ use Rattle.std.proofs.Common.{◌≡◌, ℕ, ◌<◌, ◌≤◌, true, false, e
 use Rattle.cluster.specs.Clusters.{cover, outcome}
 use Rattle.cluster.specs.Rules.{Rule}
 use Rattle.cluster.specs.Counts.{Tells}
+use Rattle.cluster.specs.declared.policy.Policy.{Ghosts as OfPolicy}
 use Rattle.keeper.specs.Piles.{Pile, price}
 use Rattle.keeper.specs.declared.fault.KeeperFault.{KeeperFault}
 use Rattle.keeper.specs.declared.fault.KeeperFault.TheVariants.{NoSpace}
+use Rattle.keeper.specs.declared.Keeper.{Ghosts as OfKeeper}
 use Rattle.order.proofs.Held.{passed, count_own, count_other}
 use Rattle.order.proofs.Vectors.{when, unless}
 use Rattle.order.specs.History.{History, Valid, count, ground}
@@ -28,7 +30,7 @@ use Rattle.station.specs.declared.faults.Taken.{Taken}
 pub takes_judged : (P : Rule) (n : ℕ) (h : History) (b : Bytes) (space : ℕ) (f : TakeFault) → Err f ≡ judged n h b → Err f ≡ takes P n h space b
 unfolding verdict
 takes_judged P n h b space f e = elim (cases_Bool (eqb (ground n h b) 0)) [
-  | inl t ↦ let passes = e ∙ when _ _ _ t in let z : ◌≡◌ {A = ℕ} 0 1 = cc in absurd (omega arith)
+  | inl t ↦ let passes = e ∙ when _ _ _ t in cc
   | inr u ↦ let refused : Err f ≡ Err (refusal (ground n h b)) = e ∙ unless _ _ _ u in let same : f ≡ refusal (ground n h b) = cc in ap Err same ∙ sym (unless _ _ _ u)
 ]
 
@@ -36,7 +38,7 @@ pub judged_record : (n : ℕ) (h : History) (b : Bytes) (r : Record) → Ok r �
 unfolding verdict
 judged_record n h b r e = elim (cases_Bool (eqb (ground n h b) 0)) [
   | inl t ↦ let passes = e ∙ when _ _ _ t in cc
-  | inr u ↦ let refused = e ∙ unless _ _ _ u in let z : ◌≡◌ {A = ℕ} 0 1 = cc in absurd (omega arith)
+  | inr u ↦ let refused = e ∙ unless _ _ _ u in cc
 ]
 
 -- a two-byte number
@@ -62,26 +64,26 @@ module _ (P : Rule) (n : ℕ) (h : History) (b : Bytes) (space : ℕ) (g : groun
   unfolding taken_as room_for
   takes_taken e = elim (cases_Bool (leb (price (size (cover P n h b))) space)) [
     | inl t ↦ open_ground ∙ when _ _ _ t
-    | inr f ↦ let no_room = e ∙ cond-false _ _ _ f in let z : ◌≡◌ {A = ℕ} 0 1 = cc in absurd (omega arith)
+    | inr f ↦ let no_room = e ∙ cond-false _ _ _ f in cc
   ]
 
   pub takes_refused : (f : KeeperFault) → Err f ≡ room_for P n h b space → Err (Keeper f) ≡ takes P n h space b
   unfolding taken_as room_for
   takes_refused f e = elim (cases_Bool (leb (price (size (cover P n h b))) space)) [
-    | inl t ↦ let room = e ∙ cond-true _ _ _ t in let z : ◌≡◌ {A = ℕ} 0 1 = cc in absurd (omega arith)
+    | inl t ↦ let room = e ∙ cond-true _ _ _ t in cc
     | inr u ↦ let lack = e ∙ cond-false _ _ _ u in let same : f ≡ NoSpace (price (size (cover P n h b))) space = cc in
         ap (λ (x : KeeperFault). Err (Keeper x)) same ∙ sym (open_ground ∙ unless _ _ _ u)
   ]
 
 -- Standing, by facts over a rule and a number of posts.
 
-module _ {P K : Type 0} (rule : P → Rule) (sound : K → Type 0) (meaning : K → Pile) where
-  pub stands_by : (s : Station P K) (h : History) (R : Rule) (n : ℕ) → rule s.policy ≡ R → (meaning s.keeper).posts ≡ n
-      → s.barred ≡ false → sound s.keeper → Tells s.exchanges h
-      → n ≤ 64 → Valid n h → Holds R n (meaning s.keeper) h → ((p : ℕ) → p < n → count h p ≤ 65535) → Groups R n h s.partition
-      → Stands rule sound meaning s h
+module _ {P K : Type 0} (policy : OfPolicy P) (keeper : OfKeeper K) where
+  pub stands_by : (s : Station P K) (h : History) (R : Rule) (n : ℕ) → policy.rule s.policy ≡ R → (keeper.meaning s.keeper).posts ≡ n
+      → s.barred ≡ false → keeper.sound s.keeper → Tells s.exchanges h
+      → n ≤ 64 → Valid n h → Holds R n (keeper.meaning s.keeper) h → ((p : ℕ) → p < n → count h p ≤ 65535) → Groups R n h s.partition
+      → Stands policy keeper s h
   stands_by s h R n same_rule same_posts bar keeps tells =
-      subst₂ (λ (R : Rule) (n : ℕ). n ≤ 64 → Valid n h → Holds R n (meaning s.keeper) h → ((p : ℕ) → p < n → count h p ≤ 65535) → Groups R n h s.partition → Stands rule sound meaning s h)
+      subst₂ (λ (R : Rule) (n : ℕ). n ≤ 64 → Valid n h → Holds R n (keeper.meaning s.keeper) h → ((p : ℕ) → p < n → count h p ≤ 65535) → Groups R n h s.partition → Stands policy keeper s h)
       same_rule same_posts
       (λ few valid holds small groups. record {
         open_to_all = bar;
@@ -96,50 +98,50 @@ module _ {P K : Type 0} (rule : P → Rule) (sound : K → Type 0) (meaning : K 
         grouped = groups.grouped;
       })
 
-  module _ (s is : Station P K) (h : History) (b : Bytes) (st : Stands rule sound meaning s h) (g : ground (meaning s.keeper).posts h b ≡ 0)
-      (same_policy : is.policy ≡ s.policy) (same_bar : is.barred ≡ s.barred) (keeps : sound is.keeper) where
-    groups_now : Groups (rule s.policy) (meaning s.keeper).posts h s.partition
+  module _ (s is : Station P K) (h : History) (b : Bytes) (st : Stands policy keeper s h) (g : ground (keeper.meaning s.keeper).posts h b ≡ 0)
+      (same_policy : is.policy ≡ s.policy) (same_bar : is.barred ≡ s.barred) (keeps : keeper.sound is.keeper) where
+    groups_now : Groups (policy.rule s.policy) (keeper.meaning s.keeper).posts h s.partition
     groups_now = record { parts = st.parts; grouped = st.grouped }
 
-    pub took_refused : (f : KeeperFault) → Err f ≡ room_for (rule s.policy) (meaning s.keeper).posts h b ((meaning s.keeper).space (post b))
-        → meaning is.keeper ≡ meaning s.keeper → is.partition ≡ s.partition → is.exchanges ≡ s.exchanges
-        → Took rule sound meaning s is h b (Err (Keeper f))
+    pub took_refused : (f : KeeperFault) → Err f ≡ room_for (policy.rule s.policy) (keeper.meaning s.keeper).posts h b ((keeper.meaning s.keeper).space (post b))
+        → keeper.meaning is.keeper ≡ keeper.meaning s.keeper → is.partition ≡ s.partition → is.exchanges ≡ s.exchanges
+        → Took policy keeper s is h b (Err (Keeper f))
     took_refused f e pile partition exchanges = record {
-      answer = takes_refused (rule s.policy) (meaning s.keeper).posts h b ((meaning s.keeper).space (post b)) g f e;
-      stands = stands_by is h (rule s.policy) (meaning s.keeper).posts (ap rule same_policy) (ap (λ (m : Pile). m.posts) pile)
+      answer = takes_refused (policy.rule s.policy) (keeper.meaning s.keeper).posts h b ((keeper.meaning s.keeper).space (post b)) g f e;
+      stands = stands_by is h (policy.rule s.policy) (keeper.meaning s.keeper).posts (ap policy.rule same_policy) (ap (λ (m : Pile). m.posts) pile)
           (same_bar ∙ st.open_to_all) keeps (subst (λ x. Tells x h) (sym exchanges) st.exchanged)
-          st.few st.valid (subst (λ (m : Pile). Holds (rule s.policy) (meaning s.keeper).posts m h) (sym pile) (stands_holds rule sound meaning s h st)) st.small
-          (subst (λ x. Groups (rule s.policy) (meaning s.keeper).posts h x) (sym partition) groups_now);
+          st.few st.valid (subst (λ (m : Pile). Holds (policy.rule s.policy) (keeper.meaning s.keeper).posts m h) (sym pile) (stands_holds policy keeper s h st)) st.small
+          (subst (λ x. Groups (policy.rule s.policy) (keeper.meaning s.keeper).posts h x) (sym partition) groups_now);
       moves = ap (λ (m : Pile). m.space) pile;
       same_policy = same_policy;
       same_posts = ap (λ (m : Pile). m.posts) pile;
       refused = record { same_pile = pile; same_partition = partition; same_exchanges = exchanges };
     }
 
-    small_now : number b ≤ 65535 → (p : ℕ) → p < (meaning s.keeper).posts → count (b ∷ h) p ≤ 65535
+    small_now : number b ≤ 65535 → (p : ℕ) → p < (keeper.meaning s.keeper).posts → count (b ∷ h) p ≤ 65535
     small_now small p inside = elim (cases_eq (post b) p) [
-      | inl same ↦ subst (λ (x : ℕ). count (b ∷ h) x ≤ 65535) same (omega (arith, count_own b h, (passed (meaning s.keeper).posts h b g).next))
+      | inl same ↦ subst (λ (x : ℕ). count (b ∷ h) x ≤ 65535) same (omega (arith, count_own b h, (passed (keeper.meaning s.keeper).posts h b g).next))
       | inr ne ↦ omega (arith, count_other b h p ne, st.small p inside)
     ]
 
-    pub took_entered : number b ≤ 65535 → Ok tt ≡ room_for (rule s.policy) (meaning s.keeper).posts h b ((meaning s.keeper).space (post b))
-        → Stamped (rule s.policy) (meaning s.keeper).posts h b (meaning s.keeper) (meaning is.keeper) is.exchanges
-        → Groups (rule s.policy) (meaning s.keeper).posts (b ∷ h) is.partition
-        → (t : Taken) → t ≡ record { outcome = outcome (rule s.policy) h b; entries = size (cover (rule s.policy) (meaning s.keeper).posts h b) }
-        → Took rule sound meaning s is h b (Ok t)
+    pub took_entered : number b ≤ 65535 → Ok tt ≡ room_for (policy.rule s.policy) (keeper.meaning s.keeper).posts h b ((keeper.meaning s.keeper).space (post b))
+        → Stamped (policy.rule s.policy) (keeper.meaning s.keeper).posts h b (keeper.meaning s.keeper) (keeper.meaning is.keeper) is.exchanges
+        → Groups (policy.rule s.policy) (keeper.meaning s.keeper).posts (b ∷ h) is.partition
+        → (t : Taken) → t ≡ record { outcome = outcome (policy.rule s.policy) h b; entries = size (cover (policy.rule s.policy) (keeper.meaning s.keeper).posts h b) }
+        → Took policy keeper s is h b (Ok t)
     took_entered small e stamped groups t is_so = record {
-      answer = ap Ok is_so ∙ sym (takes_taken (rule s.policy) (meaning s.keeper).posts h b ((meaning s.keeper).space (post b)) g e);
-      stands = stands_by is (b ∷ h) (rule s.policy) (meaning s.keeper).posts (ap rule same_policy) stamped.same_posts
+      answer = ap Ok is_so ∙ sym (takes_taken (policy.rule s.policy) (keeper.meaning s.keeper).posts h b ((keeper.meaning s.keeper).space (post b)) g e);
+      stands = stands_by is (b ∷ h) (policy.rule s.policy) (keeper.meaning s.keeper).posts (ap policy.rule same_policy) stamped.same_posts
           (same_bar ∙ st.open_to_all) keeps stamped.tells st.few (taken st.valid g) stamped.holds (small_now small) groups;
-      moves = subst (λ (x : Taken). Moves (post b) (meaning s.keeper).space (Ok x) (meaning is.keeper).space) (sym is_so) stamped.pays;
+      moves = subst (λ (x : Taken). Moves (post b) (keeper.meaning s.keeper).space (Ok x) (keeper.meaning is.keeper).space) (sym is_so) stamped.pays;
       same_policy = same_policy;
       same_posts = stamped.same_posts;
       refused = tt;
     }
 
-  pub took_judged : (s : Station P K) (h : History) (b : Bytes) → Stands rule sound meaning s h → (f : TakeFault) → Err f ≡ judged (meaning s.keeper).posts h b → Took rule sound meaning s s h b (Err f)
+  pub took_judged : (s : Station P K) (h : History) (b : Bytes) → Stands policy keeper s h → (f : TakeFault) → Err f ≡ judged (keeper.meaning s.keeper).posts h b → Took policy keeper s s h b (Err f)
   took_judged s h b st f e = record {
-    answer = takes_judged (rule s.policy) (meaning s.keeper).posts h b ((meaning s.keeper).space (post b)) f e;
+    answer = takes_judged (policy.rule s.policy) (keeper.meaning s.keeper).posts h b ((keeper.meaning s.keeper).space (post b)) f e;
     stands = st;
     moves = refl;
     same_policy = refl;

@@ -1,30 +1,35 @@
 -- Full vectors, read back from what a station keeps.
-use Rattle.std.proofs.Common.{◌≡◌, ℕ, zero, suc, ◌+◌, ◌-◌, ◌<◌, ◌≤◌, max, Bool, true, false, cond, ◌&&◌, ltb, ◌⊎◌, List, ◌∷◌, length, get_or, set, replicate, Ok, Err, Result, sym, refl, ap, ◌∙◌, subst, ap₂, inl, inr, arith}
+use Rattle.std.proofs.Common.{◌≡◌, ℕ, zero, suc, ◌-◌, ◌<◌, ◌≤◌, max, true, false, cond, ◌&&◌, ltb, ◌⊎◌, List, [], ◌∷◌, ◌++◌, length, get_or, set, replicate, Ok, Err, Result, sym, refl, ap, ◌∙◌, subst, ap₂, inl, inr, arith}
 use Rattle.cluster.proofs.Covers.{cover_at_posts, latest_full_most, latest_full_covers, latest_full_last, has_each, source}
 use Rattle.cluster.proofs.Kept.{kept-cover, kept_entry}
 use Rattle.cluster.specs.Clusters.{cover_at, latest_full}
 use Rattle.cluster.specs.Kept.{kept}
 use Rattle.cluster.specs.Rules.{Rule}
-use Rattle.keeper.specs.Answers.{ask_stamp, ask_cover, ask_full, ask_entry}
-use Rattle.keeper.specs.Piles.{Pile, Stamp, entry_of}
+use Rattle.cluster.specs.declared.policy.Policy.{Ghosts as OfPolicy}
+use Rattle.keeper.specs.Answers.{ask_stamp, ask_cover, ask_entry}
+use Rattle.keeper.specs.Piles.{Stamp, entry_of}
 use Rattle.keeper.specs.declared.fault.KeeperFault.{KeeperFault}
-use Rattle.keeper.specs.declared.fault.KeeperFault.TheVariants.{NotCovered, NotHeld, UnknownPost}
-use Rattle.order.proofs.Forms.{code_named}
+use Rattle.keeper.specs.declared.fault.KeeperFault.TheVariants.{NotCovered, NotHeld}
+use Rattle.keeper.specs.declared.Keeper.{Ghosts as OfKeeper}
 use Rattle.order.proofs.Held.{passed, count_none, count_other}
 use Rattle.order.proofs.Vectors.{vec_none, vec_self, vec-count, vec_closed, vec_own, vec_other, brought, brought_by, brought_none}
 use Rattle.order.specs.History.{History, Valid, count, ground}
 use Rattle.order.specs.History.Valid.{start, taken}
-use Rattle.order.specs.Posts.{has}
-use Rattle.order.specs.Reads.{record_of}
-use Rattle.order.specs.Records.{Bytes, post, kind, number, partner_post, partner_number, receives, code}
+use Rattle.order.specs.Posts.{has, below, members, size}
+use Rattle.order.proofs.PostSets.{get_or_rank, length_below_le, placed, rank_below, walked_turn}
+use Rattle.order.specs.Records.{Bytes, post, kind, kind_named, number, partner_post, partner_number, receives}
 use Rattle.order.specs.Vectors.{vec}
+use Rattle.order.specs.Walk.{Steps, rest}
+use Rattle.order.specs.declared.posts.Members.{Members}
+use Rattle.std.specs.Iterator.{Yields}
 use Rattle.order.specs.declared.event.Event.{Event}
 use Rattle.order.specs.declared.event.Kind.TheVariants.{Receive}
 use Rattle.order.specs.declared.«record».Record.{Record}
-use Rattle.std.proofs.lemmas.List.{get_or-set_same, get_or-set_other}
-use Rattle.std.proofs.lemmas.Bool.{and_from, and_left, and_right, cond-true, cond-false, cases_Bool, cases_eq, cases_lt, lt-ltb, le-ltb, eq-eqb, ne_eqb, both_ways}
+use Rattle.std.proofs.lemmas.List.{get_or-set_same, get_or-set_other, get_or_append_left, get_or_at, length_push}
+use Rattle.std.proofs.lemmas.Bool.{and_from, and_left, cond-true, cond-false, cases_Bool, cases_eq, cases_lt, lt-ltb, le-ltb, eq-eqb, ne_eqb, both_ways}
+use Rattle.station.proofs.Judged.{receive_code}
 use Rattle.station.proofs.Reading.{Known, asked}
-use Rattle.station.specs.Drafts.{known_before}
+use Rattle.station.specs.Drafts.{Due, known_before}
 use Rattle.station.specs.Stands.{Stands}
 use Rattle.station.specs.declared.state.Station.{Station}
 
@@ -37,6 +42,25 @@ count_past {n} (taken {r = r} {h = h} v g) q past = count_other r h q (λ e. ome
 pub vec_past : {n : ℕ} {h : History} → Valid n h → (p k q : ℕ) → k ≤ count h p → n ≤ q → vec h p k q ≡ 0
 vec_past v p k q held past = omega (arith, vec-count v p k q held, count_past v q past)
 
+-- ---- a loop over the members of a set
+
+-- the one that comes is a member, and fewer than 64 came before
+pub came : (xs : List ℕ) (s t u : Members) (b p : ℕ) → rest s ≡ members b → Yields Steps s xs t → rest t ≡ p ∷ rest u → (has b p ≡ true) × (length xs < 64)
+came xs s t u b p first y now =
+    let turn = walked_turn xs s t u b p first y now in
+    (subst (λ q. has b q ≡ true) turn.2 (placed 64 b (length xs) 0 turn.1).member, omega (arith, turn.1, length_below_le 64 b))
+
+-- what holds of each that has come, and of the one that comes
+pub each_more : (P : ℕ → Type 0) (xs : List ℕ) (p : ℕ) → ((i : ℕ) → i < length xs → P (get_or xs i 0)) → P p → (i : ℕ) → i < length (xs ++ p ∷ []) → P (get_or (xs ++ p ∷ []) i 0)
+each_more P xs p all here i l = elim (cases_lt i (length xs)) [
+  | inl before ↦ subst P (sym (get_or_append_left xs (p ∷ []) 0 i before)) (all i before)
+  | inr past ↦ subst P (sym (get_or_at xs p [] 0 i (omega (arith, length_push xs p)))) here
+]
+
+-- what holds of each of the members, at its place
+pub each_member : (P : ℕ → Type 0) (b : ℕ) → ((i : ℕ) → i < size b → P (get_or (members b) i 0)) → (q : ℕ) → q < 64 → has b q ≡ true → P q
+each_member P b all q l t = subst P (get_or_rank q 64 b 0 l t) (all (length (below q b)) (rank_below q 64 b l t))
+
 -- ---- the entries for a set's posts
 
 pub zeros : (n q : ℕ) → ◌≡◌ {A = ℕ} (get_or (replicate n 0) q 0) 0
@@ -44,89 +68,70 @@ zeros zero q = refl
 zeros (suc n) zero = refl
 zeros (suc n) (suc q) = zeros n q
 
--- they stand there for the posts below i
-abbrev pub Upto : List ℕ → ℕ → ℕ → (ℕ → ℕ) → Type 0
-Upto entries bits i f = (q : ℕ) → get_or entries q 0 ≡ cond (has bits q && ltb q i) (f q) 0
+-- the posts that have come have their entries by f, and a post that is no member has 0
+pub record Placed (b : ℕ) (f : ℕ → ℕ) (xs entries : List ℕ) : Type 0 where
+  pub told : (i : ℕ) → i < length xs → get_or entries (get_or xs i 0) 0 ≡ f (get_or xs i 0)
+  pub others : (q : ℕ) → has b q ≡ false → get_or entries q 0 ≡ 0
 
-pub upto_none : (xs : List ℕ) (bits : ℕ) (f : ℕ → ℕ) → ((q : ℕ) → get_or xs q 0 ≡ 0) → Upto xs bits 0 f
-upto_none xs bits f z q = z q ∙ sym (cond-false _ _ _ (and_right (has bits q) _ (le-ltb q 0 (omega arith))))
+pub placed_none : (b : ℕ) (f : ℕ → ℕ) (entries : List ℕ) → ((q : ℕ) → get_or entries q 0 ≡ 0) → Placed b f [] entries
+placed_none b f entries z = record { told = λ i l. absurd (omega arith); others = λ q _. z q }
 
-one_more : (q i : ℕ) → (q ≡ i → ⊥) → ltb q i ≡ ltb q (i + 1)
-one_more q i ne = elim (cases_lt q i) [
-  | inl l ↦ lt-ltb q i l ∙ sym (lt-ltb q (i + 1) (omega arith))
-  | inr g ↦ le-ltb q i g ∙ sym (le-ltb q (i + 1) (omega arith))
-]
+pub placed_more : (b : ℕ) (f : ℕ → ℕ) (xs entries : List ℕ) (p : ℕ) → p < length entries → has b p ≡ true → Placed b f xs entries → Placed b f (xs ++ p ∷ []) (set entries p (f p))
+placed_more b f xs entries p inside t s = record {
+  told = each_more (λ x. get_or (set entries p (f p)) x 0 ≡ f x) xs p
+      (λ i l. elim (cases_eq (get_or xs i 0) p) [
+        | inl e ↦ subst (λ x. get_or (set entries p (f p)) x 0 ≡ f x) (sym e) (get_or-set_same entries p (f p) 0 inside)
+        | inr ne ↦ get_or-set_other entries p (get_or xs i 0) (f p) 0 ne ∙ s.told i l
+      ])
+      (get_or-set_same entries p (f p) 0 inside);
+  others = λ q out. get_or-set_other entries p q (f p) 0 (λ e. both_ways _ out (ap (has b) e ∙ t)) ∙ s.others q out;
+}
 
-upto_other : (xs : List ℕ) (bits i : ℕ) (f : ℕ → ℕ) → Upto xs bits i f → (q : ℕ) → (q ≡ i → ⊥) → get_or xs q 0 ≡ cond (has bits q && ltb q (i + 1)) (f q) 0
-upto_other xs bits i f u q ne = u q ∙ ap (λ (b : Bool). cond (has bits q && b) (f q) 0) (one_more q i ne)
-
-pub upto_with : (xs : List ℕ) (bits i v : ℕ) (f : ℕ → ℕ) → i < length xs → has bits i ≡ true → v ≡ f i → Upto xs bits i f → Upto (set xs i v) bits (i + 1) f
-upto_with xs bits i v f inside t e u q = elim (cases_eq q i) [
-  | inl same ↦ subst (λ (x : ℕ). get_or (set xs i v) x 0 ≡ cond (has bits x && ltb x (i + 1)) (f x) 0) (sym same)
-      (get_or-set_same xs i v 0 inside ∙ e ∙ sym (cond-true _ _ _ (and_from _ _ t (lt-ltb i (i + 1) (omega arith)))))
-  | inr ne ↦ get_or-set_other xs i q v 0 ne ∙ upto_other xs bits i f u q ne
-]
-
-pub upto_without : (xs : List ℕ) (bits i : ℕ) (f : ℕ → ℕ) → has bits i ≡ false → Upto xs bits i f → Upto xs bits (i + 1) f
-upto_without xs bits i f t u q = elim (cases_eq q i) [
-  | inl same ↦ subst (λ (x : ℕ). get_or xs x 0 ≡ cond (has bits x && ltb x (i + 1)) (f x) 0) (sym same)
-      (u i ∙ cond-false _ _ _ (and_left (has bits i) _ t) ∙ sym (cond-false _ _ _ (and_left (has bits i) _ t)))
-  | inr ne ↦ upto_other xs bits i f u q ne
-]
-
-pub upto_all : (xs : List ℕ) (bits i : ℕ) (f : ℕ → ℕ) → ((q : ℕ) → has bits q ≡ true → q < i) → Upto xs bits i f → (q : ℕ) → get_or xs q 0 ≡ cond (has bits q) (f q) 0
-upto_all xs bits i f inside u q = elim (cases_Bool (has bits q)) [
-  | inl t ↦ u q ∙ cond-true _ _ _ (and_from _ _ t (lt-ltb q i (inside q t))) ∙ sym (cond-true _ _ _ t)
-  | inr e ↦ u q ∙ cond-false _ _ _ (and_left (has bits q) _ e) ∙ sym (cond-false _ _ _ e)
+pub placed_all : (b : ℕ) (f g : ℕ → ℕ) (entries : List ℕ) → ((q : ℕ) → has b q ≡ true → q < 64) → Placed b f (members b) entries
+    → ((q : ℕ) → has b q ≡ true → f q ≡ g q) → (q : ℕ) → get_or entries q 0 ≡ cond (has b q) (g q) 0
+placed_all b f g entries inside s same q = elim (cases_Bool (has b q)) [
+  | inl t ↦ each_member (λ x. get_or entries x 0 ≡ f x) b s.told q (inside q t) t ∙ same q t ∙ sym (cond-true _ _ _ t)
+  | inr out ↦ s.others q out ∙ sym (cond-false _ _ _ out)
 ]
 
 -- ---- what full events tell
 
+-- f has all that the latest full event of post x knows, of those that event k of post p knows
+abbrev pub Told : Rule → ℕ → History → ℕ → ℕ → (ℕ → ℕ) → ℕ → Type 0
+Told R n h p k f x = (q : ℕ) → vec h x (latest_full R n h x (vec h p k x)) q ≤ f q
+
 -- what event k of post p knows of each post bounds f, which has the entries of its cover and all that the latest full
--- events of the covered posts below i know
-pub record Gathers (R : Rule) (n : ℕ) (h : History) (p k i : ℕ) (f : ℕ → ℕ) : Type 0 where
+-- events of the posts that have come know
+pub record Gathers (R : Rule) (n : ℕ) (h : History) (p k : ℕ) (xs : List ℕ) (f : ℕ → ℕ) : Type 0 where
   pub most : (q : ℕ) → f q ≤ vec h p k q
   pub own : (q : ℕ) → has (cover_at R n h p k) q ≡ true → vec h p k q ≤ f q
-  pub told : (x q : ℕ) → x < i → has (cover_at R n h p k) x ≡ true → vec h x (latest_full R n h x (vec h p k x)) q ≤ f q
+  pub told : (i : ℕ) → i < length xs → Told R n h p k f (get_or xs i 0)
 
 module _ (R : Rule) {n : ℕ} {h : History} (v : Valid n h) (p k : ℕ) (held : k ≤ count h p) where
-  pub gathers_none : (f : ℕ → ℕ) → ((q : ℕ) → f q ≡ cond (has (cover_at R n h p k) q) (vec h p k q) 0) → Gathers R n h p k 0 f
+  pub gathers_none : (f : ℕ → ℕ) → ((q : ℕ) → f q ≡ cond (has (cover_at R n h p k) q) (vec h p k q) 0) → Gathers R n h p k [] f
   gathers_none f e = record {
     most = λ q. elim (cases_Bool (has (cover_at R n h p k) q)) [
       | inl t ↦ omega (arith, e q ∙ cond-true _ _ _ t)
       | inr out ↦ omega (arith, e q ∙ cond-false _ _ _ out)
     ];
     own = λ q t. omega (arith, e q ∙ cond-true _ _ _ t);
-    told = λ x q l t. absurd (omega arith);
+    told = λ i l. absurd (omega arith);
   }
 
-  pub gathers_with : (i : ℕ) (f g told : ℕ → ℕ) → ((q : ℕ) → told q ≡ vec h i (latest_full R n h i (vec h p k i)) q) → ((q : ℕ) → g q ≡ max (f q) (told q))
-      → Gathers R n h p k i f → Gathers R n h p k (i + 1) g
-  gathers_with i f g told is joined s =
-      let m = vec h p k i in
-      let l = latest_full_most R n h i m (vec-count v p k i held) in
+  pub gathers_more : (xs : List ℕ) (x : ℕ) (f g told : ℕ → ℕ) → ((q : ℕ) → told q ≡ vec h x (latest_full R n h x (vec h p k x)) q) → ((q : ℕ) → g q ≡ max (f q) (told q))
+      → Gathers R n h p k xs f → Gathers R n h p k (xs ++ x ∷ []) g
+  gathers_more xs x f g told is joined s =
+      let m = vec h p k x in
+      let l = latest_full_most R n h x m (vec-count v p k x held) in
       record {
-        most = λ q. omega (arith, joined q, is q, s.most q, vec_closed v p k i (latest_full R n h i m) q held l);
+        most = λ q. omega (arith, joined q, is q, s.most q, vec_closed v p k x (latest_full R n h x m) q held l);
         own = λ q t. omega (arith, joined q, s.own q t);
-        told = λ x q l t. elim (cases_eq x i) [
-          | inl e ↦ omega (arith, joined q, is q, ap (λ (y : ℕ). vec h y (latest_full R n h y (vec h p k y)) q) e)
-          | inr ne ↦ omega (arith, joined q, s.told x q (omega arith) t)
-        ];
+        told = each_more (Told R n h p k g) xs x (λ i l q. omega (arith, joined q, s.told i l q)) (λ q. omega (arith, joined q, is q));
       }
 
-  pub gathers_without : (i : ℕ) (f : ℕ → ℕ) → has (cover_at R n h p k) i ≡ false → Gathers R n h p k i f → Gathers R n h p k (i + 1) f
-  gathers_without i f out s = record {
-    most = s.most;
-    own = s.own;
-    told = λ x q l t. elim (cases_eq x i) [
-      | inl e ↦ absurd (both_ways _ (ap (has (cover_at R n h p k)) e ∙ out) t)
-      | inr ne ↦ s.told x q (omega arith) t
-    ];
-  }
-
   -- an entry that is not covered is one that a full event of a covered post has
-  pub gathers_all : (i : ℕ) (f : ℕ → ℕ) → n ≤ i → Gathers R n h p k i f → (q : ℕ) → f q ≡ vec h p k q
-  gathers_all i f most s q = elim (cases_Bool (has (cover_at R n h p k) q)) [
+  pub gathers_all : n ≤ 64 → (f : ℕ → ℕ) → Gathers R n h p k (members (cover_at R n h p k)) f → (q : ℕ) → f q ≡ vec h p k q
+  gathers_all few f s q = elim (cases_Bool (has (cover_at R n h p k) q)) [
     | inl t ↦ omega (arith, s.most q, s.own q t)
     | inr out ↦ elim (source R v p k q held out) [
       | inl z ↦ omega (arith, s.most q)
@@ -139,7 +144,8 @@ module _ (R : Rule) {n : ℕ} {h : History} (v : Valid n h) (p k : ℕ) (held : 
           let l_held : last ≤ count h x = omega (arith, latest_full_most R n h x m m_held) in
           let later = latest_full_last R n h x m e m_held src.some src.known src.full in
           let knows = vec_closed v x last x e q l_held (omega (arith, vec_self h x last l_held)) in
-          omega (arith, src.value, s.most q, s.told x q (omega (arith, cover_at_posts R v p k x held src.covered)) src.covered)
+          let told = each_member (Told R n h p k f) _ s.told x (omega (arith, few, cover_at_posts R v p k x held src.covered)) src.covered in
+          omega (arith, src.value, s.most q, told q)
     ]
   ]
 
@@ -154,21 +160,23 @@ pub record Same (n : ℕ) (h : History) (e : Event) (p k : ℕ) : Type 0 where
 same : (n : ℕ) (h : History) (e : Event) (p k : ℕ) → e.post ≡ p → e.number ≡ k → p < n → k ≤ count h p → Same n h e p k
 same n h e p k a b inside most = record { inside = omega arith; most = omega (arith, ap (count h) a); entry = λ q. ap₂ (λ (x y : ℕ). vec h x y q) a b }
 
-pub same_previous : (n : ℕ) (h : History) (b : Bytes) (r : Record) (k : ℕ) → ground n h b ≡ 0 → r ≡ record_of b → k ≡ r.event.number - 1
-    → Same n h (record { post = r.event.post; number = k }) (post b) (count h (post b))
-same_previous n h b r k g is less =
-    let next = (passed n h b g).next in
-    let number_is = ap (λ (r : Record). r.event.number) is in
-    same n h (record { post = r.event.post; number = k }) (post b) (count h (post b)) (ap (λ (r : Record). r.event.post) is) (omega arith) (passed n h b g).inside (omega arith)
+module _ {n : ℕ} {h : History} {b : Bytes} {r : Record} (due : Due n h b r) where
+  pub same_previous : (k : ℕ) → k ≡ r.event.number - 1 → Same n h (record { post = r.event.post; number = k }) (post b) (count h (post b))
+  same_previous k less =
+      let facts = passed n h b due.fine in
+      let number_is = ap (λ (r : Record). r.event.number) due.is in
+      same n h (record { post = r.event.post; number = k }) (post b) (count h (post b)) (ap (λ (r : Record). r.event.post) due.is) (omega (arith, facts.next)) facts.inside (omega arith)
 
--- the code of a record's kind
-pub receive_code : (n : ℕ) (h : History) (b : Bytes) (r : Record) → ground n h b ≡ 0 → r ≡ record_of b → r.kind ≡ Receive → kind b ≡ 2
-receive_code n h b r g is receive = sym (code_named (kind b) (passed n h b g).known) ∙ ap code (sym (ap (λ (r : Record). r.kind) is) ∙ receive)
+  pub receives_by : r.kind ≡ Receive → kind b ≡ 2
+  receives_by receive = receive_code (kind b) (passed n h b due.fine).known (sym (ap (λ (r : Record). r.kind) due.is) ∙ receive)
 
-pub same_partner : (n : ℕ) (h : History) (b : Bytes) (r : Record) → ground n h b ≡ 0 → r ≡ record_of b → kind b ≡ 2 → Same n h r.partner (partner_post b) (partner_number b)
-same_partner n h b r g is two =
-    let pair = (passed n h b g).pair two in
-    same n h r.partner (partner_post b) (partner_number b) (ap (λ (r : Record). r.partner.post) is) (ap (λ (r : Record). r.partner.number) is) pair.inside pair.most
+  pub kind_by : kind b ≡ 2 → r.kind ≡ Receive
+  kind_by two = ap (λ (r : Record). r.kind) due.is ∙ ap kind_named two
+
+  pub same_partner : kind b ≡ 2 → Same n h r.partner (partner_post b) (partner_number b)
+  same_partner two =
+      let pair = (passed n h b due.fine).pair two in
+      same n h r.partner (partner_post b) (partner_number b) (ap (λ (r : Record). r.partner.post) due.is) (ap (λ (r : Record). r.partner.number) due.is) pair.inside pair.most
 
 brought_is : (b : Bytes) (h : History) (q : ℕ) → cond (receives b) (vec h (partner_post b) (partner_number b) q) 0 ≡ brought b h q
 brought_is b h q = elim (cases_eq (kind b) 2) [
@@ -221,37 +229,24 @@ first_or_held n h e inside most = elim (cases_eq e.number 0) [
   | inr some ↦ inr (record { inside = inside; some = omega arith; most = most })
 ]
 
-pub not_refused : {A : Type 0} (x : A) (f : KeeperFault) → ◌≡◌ {A = Result A KeeperFault} (Err f) (Ok x) → ⊥
-not_refused x f e = let z : ◌≡◌ {A = ℕ} 0 1 = cc in omega arith
-
-module _ {P K : Type 0} (rule : P → Rule) (sound : K → Type 0) (meaning : K → Pile) (s : Station P K) (h : History) (st : Stands rule sound meaning s h) where
-  pub read_cover : (e : Event) → Known (meaning s.keeper).posts h e
-      → ask_cover (meaning s.keeper) e ≡ Ok (record { bits = cover_at (rule s.policy) (meaning s.keeper).posts h e.post e.number })
+module _ {P K : Type 0} (policy : OfPolicy P) (keeper : OfKeeper K) (s : Station P K) (h : History) (st : Stands policy keeper s h) where
+  pub read_cover : (e : Event) → Known (keeper.meaning s.keeper).posts h e
+      → ask_cover (keeper.meaning s.keeper) e ≡ Ok (record { bits = cover_at (policy.rule s.policy) (keeper.meaning s.keeper).posts h e.post e.number })
   unfolding kept
-  read_cover e k = asked rule sound meaning s h st e (λ t. Ok (record { bits = t.cover })) k
-
-  pub read_full : (e : Event) → Known (meaning s.keeper).posts h e
-      → ask_full (meaning s.keeper) e ≡ Ok (latest_full (rule s.policy) (meaning s.keeper).posts h e.post e.number)
-  unfolding kept
-  read_full e k = asked rule sound meaning s h st e (λ t. Ok t.full) k
+  read_cover e k = asked policy keeper s h st e (λ t. Ok (record { bits = t.cover })) k
 
   -- event 0 of a post is asked for in vain
-  pub held_some : {A : Type 0} (e : Event) (field : Stamp → Result A KeeperFault) (x : A) → e.number ≡ 0 → Ok x ≡ ask_stamp (meaning s.keeper) e field → ⊥
-  held_some e field x z read =
-      let none = cond-false (ltb 0 e.number && _) (field _) (Err NotHeld) (and_left _ _ (le-ltb 0 e.number (omega arith))) in
-      elim (cases_Bool (ltb e.post (meaning s.keeper).posts)) [
-        | inl t ↦ not_refused x NotHeld (sym (read ∙ cond-true _ _ _ t ∙ none))
-        | inr f ↦ not_refused x UnknownPost (sym (read ∙ cond-false _ _ _ f))
-      ]
+  pub unheld : {A : Type 0} (e : Event) (field : Stamp → Result A KeeperFault) → e.post < (keeper.meaning s.keeper).posts → e.number ≡ 0 → ask_stamp (keeper.meaning s.keeper) e field ≡ Err NotHeld
+  unheld e field inside z = cond-true _ _ _ (lt-ltb e.post _ inside) ∙ cond-false _ _ _ (and_left _ _ (le-ltb 0 e.number (omega arith)))
 
-  pub covered_below : (e : Event) (q : ℕ) → e.number ≤ count h e.post → has (cover_at (rule s.policy) (meaning s.keeper).posts h e.post e.number) q ≡ true → q < 64
-  covered_below e q held t = omega (arith, st.few, cover_at_posts (rule s.policy) st.valid e.post e.number q held t)
+  pub covered_below : (e : Event) (q : ℕ) → e.number ≤ count h e.post → has (cover_at (policy.rule s.policy) (keeper.meaning s.keeper).posts h e.post e.number) q ≡ true → q < 64
+  covered_below e q held t = omega (arith, st.few, cover_at_posts (policy.rule s.policy) st.valid e.post e.number q held t)
 
-  pub read_entry : (e : Event) (q : ℕ) → Known (meaning s.keeper).posts h e → has (cover_at (rule s.policy) (meaning s.keeper).posts h e.post e.number) q ≡ true
-      → ask_entry (meaning s.keeper) e q ≡ Ok (vec h e.post e.number q)
+  pub read_entry : (e : Event) (q : ℕ) → Known (keeper.meaning s.keeper).posts h e → has (cover_at (policy.rule s.policy) (keeper.meaning s.keeper).posts h e.post e.number) q ≡ true
+      → ask_entry (keeper.meaning s.keeper) e q ≡ Ok (vec h e.post e.number q)
   read_entry e q k t =
-      let n = (meaning s.keeper).posts in
-      let R = rule s.policy in
-      asked rule sound meaning s h st e (λ t. cond (has t.cover q) (Ok (entry_of t q)) (Err NotCovered)) k
+      let n = (keeper.meaning s.keeper).posts in
+      let R = policy.rule s.policy in
+      asked policy keeper s h st e (λ t. cond (has t.cover q) (Ok (entry_of t q)) (Err NotCovered)) k
       ∙ cond-true _ _ _ (ap (λ (c : ℕ). has c q) (kept-cover R n h e.post e.number) ∙ t)
       ∙ ap Ok (kept_entry R n h e.post e.number q (covered_below e q k.most t) t)

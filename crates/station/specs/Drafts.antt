@@ -1,14 +1,14 @@
 -- What is decided of a record that no ground on its form, number or partner refuses.
-use Rattle.std.specs.Prelude.{◌≡◌, ℕ, max, cond, ◌∷◌, map, length, take, slice_index}
+use Rattle.std.specs.Prelude.{◌≡◌, ℕ, max, cond, ◌∷◌, map, slice_index}
 use Rattle.cluster.specs.Clusters.{outcome, cover, latest_full}
 use Rattle.cluster.specs.Rules.{Rule}
 use Rattle.join.specs.declared.vector.Vector.{Vector}
-use Rattle.order.specs.History.{History, count}
-use Rattle.order.specs.Posts.{members, size}
+use Rattle.order.specs.History.{History, count, ground}
+use Rattle.order.specs.Posts.{members}
 use Rattle.order.specs.Reads.{record_of}
 use Rattle.order.specs.Records.{Bytes, post, number, kind, kind_named, receives, partner_post, partner_number}
 use Rattle.order.specs.Vectors.{vec}
-use Rattle.station.specs.declared.drafts.Cut.{Cut}
+use Rattle.order.specs.declared.«record».Record.{Record}
 use Rattle.station.specs.declared.drafts.Draft.{Draft}
 use Rattle.station.specs.declared.drafts.Ruling.{Ruling}
 
@@ -21,24 +21,21 @@ at v q = slice_index v.entries q
 abbrev pub known_before : History → Bytes → ℕ → ℕ
 known_before h b q = max (vec h (post b) (count h (post b)) q) (cond (receives b) (vec h (partner_post b) (partner_number b) q) 0)
 
+-- what the bytes say of a record that no ground on its form, number or partner refuses
+pub record Due (n : ℕ) (h : History) (b : Bytes) (r : Record) : Type 0 where
+  pub fine : ground n h b ≡ 0
+  pub is : r ≡ record_of b
+
 -- the outcome and the cover are those that the cluster rule gives
 pub record Ruled (P : Rule) (n : ℕ) (h : History) (b : Bytes) (r : Ruling) : Type 0 where
   pub outcome_is : r.outcome ≡ outcome P h b
   pub cover_is : r.cover.bits ≡ cover P n h b
 
--- a vector's entries for the posts of a set, ascending
-pub record CutTo (v : Vector) (cover : ℕ) (c : Cut) : Type 0 where
-  pub room : length c.entries ≡ 64
-  pub len_is : c.len ≡ size cover
-  pub entries_are : take c.len c.entries ≡ map (at v) (members cover)
-
 -- the stamp that the record is to have
 pub record Drafted (P : Rule) (n : ℕ) (h : History) (b : Bytes) (d : Draft) : Type 0 where
-  pub record_is : d.«record» ≡ record_of b
+  pub due : Due n h b d.«record»
   pub outcome_is : d.outcome ≡ outcome P h b
   pub kind_is : d.header.kind ≡ kind_named (kind b)
   pub cover_is : d.header.cover.bits ≡ cover P n h b
   pub full_is : d.header.full ≡ latest_full P n (b ∷ h) (post b) (number b)
-  pub room : length d.cut.entries ≡ 64
-  pub len_is : d.cut.len ≡ size (cover P n h b)
-  pub entries_are : take d.cut.len d.cut.entries ≡ map (vec (b ∷ h) (post b) (number b)) (members (cover P n h b))
+  pub entries_are : d.entries.items ≡ map (vec (b ∷ h) (post b) (number b)) (members (cover P n h b))

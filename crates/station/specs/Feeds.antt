@@ -19,11 +19,6 @@ records (suc k) bytes = take 8 bytes ∷ records k (drop 8 bytes)
 abbrev pub feed_records : Bytes → List Bytes
 feed_records bytes = records (length bytes / 8) bytes
 
--- the answer to a record of a feed that stands at a byte place, by what its take answers
-abbrev pub placed : ℕ → Result Taken TakeFault → Result Taken FeedFault
-placed place (Ok t) = Ok t
-placed place (Err f) = Err (Take place f)
-
 -- What is answered of the records that are left after k were taken, and how space moves meanwhile.
 pub data Feeds (P : Rule) (n : ℕ) : List Bytes → ℕ → History → (ℕ → ℕ) → Result ℕ FeedFault → (ℕ → ℕ) → Type 0 where
   done : {k : ℕ} {h : History} {was : ℕ → ℕ} → Feeds P n [] k h was (Ok k) was

@@ -3,5 +3,7 @@ pub mod Drafts
 pub mod Entries
 pub mod Faults
 pub mod Feeds
+pub mod Reaches
+pub mod ReachesLemmas
 pub mod Stands
 pub mod Takes

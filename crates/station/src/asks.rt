@@ -26,7 +26,8 @@ pub enum AskFault {
 }
 
 impl AskFault {
-    // The number of the ground.
+    // The number of the ground, as a caller prints it: with values in its variants the enum has no number of its own. By
+    // name, since a fault has a place too, which is another number.
     pub fn ground(self) -> u8
         ensures { result ≡ ask_ground self }
     {
@@ -34,7 +35,7 @@ impl AskFault {
             AskFault::Barred => 1,
             AskFault::SliceLength => 13,
             AskFault::NoEvents => 14,
-            AskFault::NotHeld { place: _ } => 15,
+            AskFault::NotHeld { .. } => 15,
             AskFault::UnknownPost => 16,
         }
     }

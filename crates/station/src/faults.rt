@@ -41,7 +41,8 @@ pub enum FeedFault {
 }
 
 impl TakeFault {
-    // The number of the ground.
+    // The number of the ground, as a caller prints it: with values in its variants the enum has no number of its own. By
+    // name, since a refused feed has a place too, which is another number.
     pub fn ground(self) -> u8
         ensures { result ≡ take_ground self }
     {
@@ -58,23 +59,23 @@ impl TakeFault {
 }
 
 impl FeedFault {
-    // The number of the ground.
+    // The number of the ground; by name, as for a take.
     pub fn ground(self) -> u8
         ensures { result ≡ feed_ground self }
     {
         match self {
             FeedFault::Ragged => 2,
-            FeedFault::Take { place: _, fault } => fault.ground(),
+            FeedFault::Take { fault, .. } => fault.ground(),
         }
     }
 
-    // The byte place of the refused record; 0 for grounds 1 and 2.
+    // The byte place of the refused record; 0 for grounds 1 and 2, since a program prints a place with every ground.
     pub fn place(self) -> usize
         ensures { result ≡ feed_place self }
     {
         match self {
             FeedFault::Ragged => 0,
-            FeedFault::Take { place, fault: _ } => place,
+            FeedFault::Take { place, .. } => place,
         }
     }
 }

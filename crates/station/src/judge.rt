@@ -1,8 +1,7 @@
 // The grounds on which a record is refused before anything is decided on its stamp.
 ghost use Rattle.std.specs.Prelude.{◌≡◌, ◌<◌};
-ghost use Rattle.order.specs.History.{History};
 ghost use Rattle.order.specs.Records.{Bytes, partner};
-ghost use Rattle.station.specs.Stands.{Stands};
+ghost use Rattle.station.specs.Stands.{Wherever};
 ghost use Rattle.station.specs.Takes.{judged, partner_judged};
 
 use super::faults::TakeFault;
@@ -15,13 +14,13 @@ use order::record::Record;
 impl<P: Policy, K: Keeper> Station<P, K> {
     // The record, if none of the grounds on its form, its number and its partner refuses it.
     pub fn judge(&self, bytes: &[u8]) -> Result<Record, TakeFault>
-        ensures { (h : History) → Stands P.rule K.sound K.meaning self.now h → result ≡ judged (K.meaning self.now.keeper).posts h bytes.now }
+        ensures { Wherever P.Policy K.Keeper self.now (λ _ n h. result ≡ judged n h bytes.now) }
     {
         let record = Record::read(bytes, self.keeper.posts())?;
-        if record.event.number as u32 != self.count(record.event.post) as u32 + 1 {
+        if record.event.number.checked_sub(1) != Some(self.count(record.event.post)) {
             return Err(TakeFault::OutOfTurn);
         }
-        if let Kind::Receive = record.kind {
+        if record.kind == Kind::Receive {
             self.judge_partner(record.partner)?;
         }
         Ok(record)
@@ -30,7 +29,7 @@ impl<P: Policy, K: Keeper> Station<P, K> {
     // Whether a receive may name this send.
     #[tactic(auto, using(crate::proofs::Judged::partner_missing, crate::proofs::Judged::partner_no_send, crate::proofs::Judged::partner_received, crate::proofs::Judged::partner_fresh))]
     fn judge_partner(&self, send: Event) -> Result<(), TakeFault>
-        ensures { (h : History) (b : Bytes) → Stands P.rule K.sound K.meaning self.now h → partner b ≡ send → send.post < (K.meaning self.now.keeper).posts → result ≡ partner_judged h b }
+        ensures { Wherever P.Policy K.Keeper self.now (λ _ n h. (b : Bytes) → partner b ≡ send → send.post < n → result ≡ partner_judged h b) }
     {
         if !self.holds(send) {
             return Err(TakeFault::PartnerNotHeld);

@@ -14,21 +14,15 @@ fn is_used<K: Keeper>(keeper: &K) -> bool
     ensures free { K.sound keeper.now → result ≡ false → Unused (K.meaning keeper.now) }
     ensures used { K.sound keeper.now → result ≡ true → ((p : ℕ) × (p < (K.meaning keeper.now).posts) × (0 < held_count (K.meaning keeper.now) p)) }
 {
-    for post in 0..keeper.posts() {
-        if let Ok(count) = keeper.count(post) {
-            if count > 0 {
-                return true;
-            }
-        }
-    }
-    false
+    (0..keeper.posts()).any(|post| keeper.count(post).unwrap_or(0) > 0)
 }
 
 impl<P: Policy, K: Keeper> Station<P, K> {
     // A station over an empty keeper. Over one that holds a stamp it refuses every call.
+    #[tactic(auto, using(crate::proofs::Opened::found_some))]
     pub fn open(policy: P, keeper: K) -> Station<P, K>
         ensures parts { (result.policy ≡ policy) × (result.keeper ≡ keeper) }
-        ensures stands { K.sound keeper → Unused (K.meaning keeper) → Stands P.rule K.sound K.meaning result [] }
+        ensures stands { K.sound keeper → Unused (K.meaning keeper) → Stands P.Policy K.Keeper result [] }
         ensures barred { K.sound keeper → (p : ℕ) → p < (K.meaning keeper).posts → 0 < held_count (K.meaning keeper) p → result.barred ≡ true }
     {
         let barred = is_used(&keeper);

@@ -5,7 +5,8 @@ use cluster::exchanges::Exchanges;
 use cluster::partition::Partition;
 
 // What a station says of an event it reads from its keeper. Of its own it keeps only the policy, the clusters,
-// the exchanges between posts, and whether it was opened over a keeper that held a stamp.
+// the exchanges between posts, and whether it was opened over a keeper that held a stamp, which no type shows, since
+// opening cannot fail. Where it stands is a premise of its calls and no field: over an unsound keeper it stands nowhere.
 #[derive(Drop)]
 pub struct Station<P, K> {
     pub(crate) policy: P,
@@ -20,13 +21,6 @@ impl<P: Drop, K> Station<P, K> {
     pub fn into_keeper(self) -> K
         ensures { result ≡ self.keeper }
     {
-        let Station {
-            policy: _,
-            keeper,
-            partition: _,
-            exchanges: _,
-            barred: _,
-        } = self;
-        keeper
+        self.keeper
     }
 }

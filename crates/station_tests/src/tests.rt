@@ -5,6 +5,7 @@ use layers::quota::Quota;
 use layers::shelf::Shelf;
 use order::event::Event;
 use station::asks::Relation;
+use station::faults::Taken;
 use station::state::Station;
 use std::process::Abort;
 use std::test::Fail;
@@ -19,7 +20,8 @@ const SHIFT: [[u8; 8]; 7] = [
     [0, 0, 0, 2, 0, 0, 0, 0],
 ];
 
-// Outcome and entries of each record with clusters of two posts, by the table of the shift.
+// Outcome and entries of each record with clusters of two posts, by the table of the shift. They stand apart from the
+// records, which other tests take alone.
 const TAKEN: [(Outcome, u8); 7] = [
     (Outcome::Plain, 1),
     (Outcome::Merged, 2),
@@ -37,23 +39,17 @@ fn shift_over<P: Policy + Drop, K: Keeper + Drop>(
     keeper: K,
 ) -> Result<(), Fail> {
     let mut station = Station::open(policy, keeper);
-    for (record, expected) in SHIFT.iter().zip(TAKEN.iter()) {
-        match station.take(record) {
-            Ok(taken) => assert!(rt; taken.outcome == expected.0 && taken.entries == expected.1),
-            Err(_) => return Err(Fail::new("refused")),
-        }
+    for (record, (outcome, entries)) in SHIFT.iter().zip(TAKEN) {
+        assert_eq!(rt; station.take(record), Ok(Taken { outcome, entries }));
     }
     let (first, sample) = (Event { post: 0, number: 1 }, Event { post: 3, number: 1 });
     assert!(rt; station.relate(first, sample) == Ok(Relation::Before));
     assert!(rt; station.reach(sample, 1) == Ok(2));
-    let again = station.take(&[2, 2, 0, 3, 0, 0, 0, 1]);
-    match again {
-        Err(fault) => {
-            assert_eq!(rt; fault.ground(), 11);
-            Ok(())
-        },
-        Ok(_) => Err(Fail::new("received twice")),
-    }
+    assert_eq!(rt;
+        ground_of(&mut station, &[2, 2, 0, 3, 0, 0, 0, 1]),
+        Some(11)
+    );
+    Ok(())
 }
 
 #[test]
@@ -74,28 +70,27 @@ fn every_pile_and_policy(rt: HostRuntime) -> Result<(), Fail> {
     )?;
     let mut station = Station::open(ByTraffic::new(2, 1), pool::open(4, &mut c));
     let _ = station.take(&SHIFT[0]);
-    match station.take(&SHIFT[1]) {
-        Ok(taken) => {
-            assert!(rt; taken.outcome == Outcome::Across && taken.entries == 4);
-            Ok(())
-        },
-        Err(_) => Err(Fail::new("refused")),
-    }
+    let across = Taken {
+        outcome: Outcome::Across,
+        entries: 4,
+    };
+    assert_eq!(rt; station.take(&SHIFT[1]), Ok(across));
+    Ok(())
 }
 
-// The ground on which a record is refused, or 0.
-fn ground_of<P: Policy + Drop, K: Keeper + Drop>(station: &mut Station<P, K>, record: &[u8]) -> u8 {
-    match station.take(record) {
-        Err(fault) => fault.ground(),
-        Ok(_) => 0,
-    }
+// The ground on which a record is refused, if it is.
+fn ground_of<P: Policy + Drop, K: Keeper + Drop>(
+    station: &mut Station<P, K>,
+    record: &[u8],
+) -> Option<u8> {
+    station.take(record).err().map(|fault| fault.ground())
 }
 
 #[test]
 fn refusals(rt: HostRuntime) -> Result<(), Fail> {
     let mut cells = [0; 69];
     let mut station = Station::open(FirstContact::new(2), pool::open(4, &mut cells));
-    for record in SHIFT.iter().take(6) {
+    for record in &SHIFT[..6] {
         assert!(rt; station.take(record).is_ok());
     }
     let table: [([u8; 8], u8); 6] = [
@@ -107,19 +102,15 @@ fn refusals(rt: HostRuntime) -> Result<(), Fail> {
         ([4, 0, 0, 1, 0, 0, 0, 0], 5),
     ];
     for (record, ground) in table {
-        assert_eq!(rt; ground_of(&mut station, &record), ground);
+        assert_eq!(rt; ground_of(&mut station, &record), Some(ground));
     }
-    match station.feed(&[0; 57]) {
-        Err(fault) => assert!(rt; fault.ground() == 2 && fault.place() == 0),
-        Ok(_) => return Err(Fail::new("taken")),
-    }
+    let ragged = station.feed(&[0; 57]);
+    assert_eq!(rt;
+        ragged.map_err(|fault| (fault.ground(), fault.place())),
+        Err((2, 0))
+    );
     let mut barred = Station::open(FirstContact::new(2), station.into_keeper());
-    assert_eq!(rt; ground_of(&mut barred, &SHIFT[0]), 1);
-    match barred.feed(&[]) {
-        Err(fault) => {
-            assert_eq!(rt; fault.ground(), 1);
-            Ok(())
-        },
-        Ok(_) => Err(Fail::new("not barred")),
-    }
+    assert_eq!(rt; ground_of(&mut barred, &SHIFT[0]), Some(1));
+    assert_eq!(rt; barred.feed(&[]).map_err(|fault| fault.ground()), Err(1));
+    Ok(())
 }

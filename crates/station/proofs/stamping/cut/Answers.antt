@@ -1,27 +1,20 @@
-use Rattle.std.proofs.Common.{sym, refl, ◌∙◌, arith}
-use Rattle.order.proofs.PostSets.{length_below_le}
-use Rattle.station.proofs.StampReading.{cutting_start, cutting_more, cutting_skip}
+use Rattle.std.proofs.Common.{◌≡◌, length, ap, ◌∙◌, rules, arith}
+use Rattle.order.proofs.PostSets.{walked_all}
+use Rattle.order.specs.Posts.{members}
+use Rattle.order.specs.Walk.{rest}
+use Rattle.std.proofs.Common.{map}
+use Rattle.std.proofs.lemmas.List.{length-map}
+use Rattle.station.proofs.VectorReading.{came}
 use Rattle.station.proofs.stamping.cut.Goals as goal
-use Rattle.station.proofs.stamping.cut.Goals.{then-contains, else-contains}
+use Rattle.station.specs.Drafts.{at}
 
-pub loop-post-init : goal.loop-post-init
-loop-post-init c = cutting_start c.args.vector c.args.cover.bits _ refl
+pub push-requires : goal.push-requires
+push-requires c =
+    let start : rest c.into_iter-post-iterator.result ≡ members c.args.cover.bits = search rules in
+    let few = (came c.loop-post.yielded _ _ _ c.args.cover.bits c.in-Some.post start c.loop-post.yielded_by c.in-Some.ensures.steps.least).1 in
+    (search rules, omega (arith, few, ap length c.loop-post.invariant ∙ length-map c.loop-post.yielded (at c.args.vector)))
 
-pub overflow_cast-entries-then-contains : goal.overflow_cast-entries-then-contains
-overflow_cast-entries-then-contains c = omega (arith, length_below_le c.loop-post.post c.args.cover.bits)
-
-pub offset_bounds-entries-len : goal.offset_bounds-entries-len
-offset_bounds-entries-len c = omega (arith, length_below_le c.loop-post.post c.args.cover.bits)
-
-pub bounds-entries-len : goal.bounds-entries-len
-bounds-entries-len c = omega (arith, length_below_le c.loop-post.post c.args.cover.bits)
-
-pub overflow_add-len : goal.overflow_add-len
-overflow_add-len c = omega (arith, length_below_le c.loop-post.post c.args.cover.bits)
-
-pub loop-post-preserved : goal.loop-post-preserved
-loop-post-preserved c =
-    elim c.if-contains.branch [
-      | then-contains w ↦ cutting_more _ _ _ _ _ c.loop-post.invariant _ _ (sym c.contains.ensures.value ∙ w.if-contains.true) c.loop-post-test.true w.entries-is w.len-is
-      | else-contains w ↦ cutting_skip _ _ _ _ _ c.loop-post.invariant _ _ (sym c.contains.ensures.value ∙ w.if-contains.false) w.entries-is w.len-is
-    ]
+pub returns : goal.returns
+returns c =
+    let start : rest c.into_iter-post-iterator.result ≡ members c.args.cover.bits = search rules in
+    c.loop-post.invariant ∙ ap (map (at c.args.vector)) (walked_all c.loop-post.yielded _ _ _ start c.loop-post.yielded_by c.in-None.ensures.steps)

@@ -5,5 +5,5 @@ use Rattle.station.proofs.state.Station.feed.Given as goal
 use Rattle.station.specs.Stands.{Stands}
 
 abbrev pub invariant-loop-taken : goal.invariant-loop-taken
-invariant-loop-taken g l = (h : History) → Stands g.P.Policy.rule g.K.Keeper.sound g.K.Keeper.meaning l.initial.self h
-    → Going g.P.Policy.rule g.K.Keeper.sound g.K.Keeper.meaning l.initial.self l.self h l.bytes (length l.bytes / 8) l.taken
+invariant-loop-taken g l = (h : History) → Stands g.P.Policy g.K.Keeper l.initial.self h
+    → Going g.P.Policy g.K.Keeper l.initial.self l.self h l.bytes (length l.bytes / 8) l.taken

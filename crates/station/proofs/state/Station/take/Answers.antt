@@ -11,8 +11,8 @@ returns-in_err-record g c = record {
   barred = λ t. absurd (both_ways _ c.if-self.false t);
   took = λ h st.
       let p = err_from_is_err_and c.from_residual.result c.from_residual.ensures.1 in
-      subst (λ r. Took g.P.Policy.rule g.K.Keeper.sound g.K.Keeper.meaning c.args.self.now c.args.self.now h c.args.bytes.now r) (sym (p.1 ∙ ap Err p.2))
-      (took_judged _ _ _ c.args.self.now h c.args.bytes.now st _ (sym c.in_err-record.was ∙ c.judge.ensures h st));
+      subst (λ r. Took g.P.Policy g.K.Keeper c.args.self.now c.args.self.now h c.args.bytes.now r) (sym (p.1 ∙ ap Err p.2))
+      (took_judged _ _ c.args.self.now h c.args.bytes.now st _ (sym c.in_err-record.was ∙ c.judge.ensures h st));
 }
 
 pub returns : goal.returns
@@ -23,5 +23,5 @@ returns g c = record {
       let read = sym c.in_ok-record.was ∙ c.judge.ensures h st in
       let ok = verdict_ok _ _ _ read in
       let is = judged_record _ h b c.in_ok-record.«record» read in
-      c.enter.ensures h b st (number_small b (c.type_inv.bytes 2).fits (c.type_inv.bytes 3).fits) ok (c.draft-draft.ensures h b st ok is);
+      c.enter.ensures h st b (number_small b (c.type_inv.bytes 2).fits (c.type_inv.bytes 3).fits) (c.draft-draft.ensures h st b (record { fine = ok; is = is }));
 }
