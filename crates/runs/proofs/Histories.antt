@@ -1,5 +1,5 @@
 -- The histories of a run: each is valid, and each turn keeps clusters.
-use Rattle.std.proofs.Common.{◌≡◌, ℕ, zero, suc, ◌+◌, ◌/◌, ◌<◌, ◌≤◌, Bool, true, false, eqb, leb, List, [], ◌∷◌, length, take as first, drop, Ok, Err, Result, sym, refl, ap, subst, arith}
+use Rattle.std.proofs.Common.{◌≡◌, ℕ, zero, suc, ◌+◌, ◌/◌, ◌<◌, ◌≤◌, Bool, true, false, eqb, leb, List, [], ◌∷◌, length, take as first, drop, Ok, Err, Result, refl, ap, arith}
 use Rattle.std.proofs.lemmas.Bool.{eqb-true, eqb-false, leb-true, leb-false}
 use Rattle.cluster.specs.Clusters.{cluster as cluster_of, outcome, cover}
 use Rattle.cluster.specs.Laws.{LimitKept, TogetherStays}
@@ -50,7 +50,7 @@ pub found_ground : {P : Rule} {n : ℕ} {h : History} {space : ℕ} {r : Bytes} 
 found_ground (entered g l) = g
 
 taken_ground : (P : Rule) (n : ℕ) (h : History) (space : ℕ) (r : Bytes) (t : Taken) → takes P n h space r ≡ Ok t → ground n h r ≡ 0
-taken_ground P n h space r t e = found_ground {P = P} {space = space} {t = t} (subst (Found P n h space r) e (found P n h space r))
+taken_ground P n h space r t e = found_ground (rw e at (found P n h space r))
 
 found_valid : {P : Rule} {n : ℕ} {h : History} {space : ℕ} {r : Bytes} {a : Result Taken TakeFault} → Valid n h → Found P n h space r a → Valid n (after_take h r a)
 found_valid v (refused ne) = v
@@ -76,7 +76,7 @@ feeds_took {P} {n} v (goes {h = h} {was = was} {r = r} {t = t} e p rest) =
 first_records : (j m : ℕ) (bytes : Bytes) → j ≤ m → first j (records m bytes) ≡ records j bytes
 first_records zero m bytes l = refl
 first_records (suc j) zero bytes l = absurd (omega arith)
-first_records (suc j) (suc m) bytes l = ap {B = List Bytes} (λ rs. first 8 bytes ∷ rs) (first_records j m (drop 8 bytes) (omega arith))
+first_records (suc j) (suc m) bytes l = rw (first_records j m (drop 8 bytes) (omega arith))
 
 records-length : (m : ℕ) (bytes : Bytes) → length (records m bytes) ≡ m
 records-length zero bytes = refl
@@ -84,12 +84,11 @@ records-length (suc m) bytes = ap suc (records-length m (drop 8 bytes))
 
 feed_valid : {P : Rule} {n : ℕ} (bytes : Bytes) {h : History} {was : ℕ → ℕ} {a : Result ℕ FeedFault} {is : ℕ → ℕ}
     → Valid n h → Feeds P n (feed_records bytes) 0 h was a is → Valid n (after_feed h bytes a)
-feed_valid {n = n} bytes {h = h} {a = a} v f =
+feed_valid bytes {a = a} v f =
     let w = feeds_took v f in
     let all = length bytes / 8 in
     let same : w.more ≡ taken_of a = omega (arith, w.total) in
-    let part = first_records w.more all bytes (omega (arith, w.within, records-length all bytes)) in
-    subst (λ (k : ℕ). Valid n (fed h (records k bytes))) same (subst (λ (rs : List Bytes). Valid n (fed h rs)) part w.valid)
+    rw (first_records w.more all bytes (omega (arith, w.within, records-length all bytes)), same) at w.valid
 
 -- Every turn leads from a valid history to a valid one.
 pub says_valid : {P : Rule} {n : ℕ} {h : History} {was : ℕ → ℕ} {c : Call} {a : Reply} {is : ℕ → ℕ} → Valid n h → Says P n h was c a is → Valid n (after c a h)
@@ -120,20 +119,23 @@ pub record Grown (h later : History) : Type 0 where
   pub further : List Bytes
   pub same : fed h further ≡ later
 
+same_history : {h : History} → Grown h h
+same_history = record { further = []; same = refl }
+
 pub says_grown : {P : Rule} {n : ℕ} {h : History} {was : ℕ → ℕ} {c : Call} {a : Reply} {is : ℕ → ℕ} → Says P n h was c a is → Grown h (after c a h)
 says_grown {P} {n} {h} {was} (takes_it {r = r} m) = go (found P n h (was (post r)) r)
   where
     go : {a : Result Taken TakeFault} → Found P n h (was (post r)) r a → Grown h (after_take h r a)
-    go (refused ne) = record { further = []; same = refl }
-    go (lacking g l) = record { further = []; same = refl }
+    go (refused ne) = same_history
+    go (lacking g l) = same_history
     go (entered g l) = record { further = r ∷ []; same = refl }
-says_grown (ragged ne) = record { further = []; same = refl }
+says_grown (ragged ne) = same_history
 says_grown (feeds_it {bytes = bytes} {a = a} e f) = record { further = records (taken_of a) bytes; same = refl }
-says_grown relates_them = record { further = []; same = refl }
-says_grown reaches_it = record { further = []; same = refl }
-says_grown writes_it = record { further = []; same = refl }
-says_grown hears_them = record { further = []; same = refl }
-says_grown clusters_it = record { further = []; same = refl }
+says_grown relates_them = same_history
+says_grown reaches_it = same_history
+says_grown writes_it = same_history
+says_grown hears_them = same_history
+says_grown clusters_it = same_history
 
 valid_before : {n : ℕ} {r : Bytes} {h : History} → Valid n (r ∷ h) → Valid n h
 valid_before (taken v g) = v
@@ -154,10 +156,8 @@ pub says_clusters : LimitKept → TogetherStays
     → {P : Rule} {n : ℕ} {h : History} {was : ℕ → ℕ} {c : Call} {a : Reply} {is : ℕ → ℕ} → n ≤ 64 → Valid n h → Says P n h was c a is → ClustersKept P n h (after c a h)
 says_clusters kept stays {P} {n} {h} {c = c} {a = a} most v s =
     let w = says_grown s in
-    let later = after c a h in
     let valid = says_valid v s in
     record {
-      small = kept P n later most valid;
-      together = λ p q l t. subst (λ (g : History). has (cluster_of P g p) q ≡ true) w.same
-          (together_longer stays P n h w.further most (subst (Valid n) (sym w.same) valid) p q l t);
+      small = kept P n (after c a h) most valid;
+      together = rw w.same at (together_longer stays P n h w.further most (rw (← w.same) at valid));
     }

@@ -1,6 +1,6 @@
 -- Relate answers what the chains say, so any two stations relate alike the events that both hold.
-use Rattle.std.proofs.Common.{◌≡◌, ℕ, ◌<◌, ◌≤◌, Bool, true, false, cond, leb, ◌↔◌, List, [], map, Some, None, Ok, Err, Decides, Option, Result, sym, refl, ap, ◌∙◌, subst, ap₂, inl, inr, arith}
-use Rattle.std.proofs.lemmas.Bool.{and_from, lt-ltb, le-leb, cond-true, false≢true}
+use Rattle.std.proofs.Common.{◌≡◌, ℕ, ◌<◌, ◌≤◌, Bool, true, false, cond, leb, ◌↔◌, List, [], map, Some, None, Ok, Err, Decides, Option, Result, refl, ap, ◌∙◌, subst, ap₂, inl, inr, arith}
+use Rattle.std.proofs.lemmas.Bool.{cond-true, false≢true}
 use Rattle.std.proofs.lemmas.Bool.Decides.{nat_tests, same_from_decides, Decides-eqb, Decides-and, Decides-not, Decides-like}
 use Rattle.cluster.specs.Rules.{Rule}
 use Rattle.order.specs.History.{History, Taken, Held, Chain, Valid, Agree}
@@ -31,12 +31,13 @@ taken_inside {n} (taken {r = r} {h = h} v g) newest = (passed n h r g).inside
 taken_inside (taken v g) (earlier t) = taken_inside v t
 
 held_inside : {n : ℕ} {h : History} (e : Event) → Valid n h → Held h e → e.post < n
-held_inside {n} e v t = subst (λ (f : Event). f.post < n) t.1.names (taken_inside v t.1.taken)
+held_inside e v t = rw (← t.1.names) (taken_inside v t.1.taken)
 
 pub held_known : {n : ℕ} {h : History} (e : Event) → Valid n h → Held h e → knows n h e ≡ true
 held_known e v t =
+    let inside = held_inside e v t in
     let w = held_number e v t in
-    and_from _ _ (lt-ltb _ _ (held_inside e v t)) (and_from _ _ (lt-ltb _ _ w.0) (le-leb _ _ w.1))
+    grind (arith, nat_tests)
 
 -- What relate answers of two held events.
 pub relates_held : {n : ℕ} {h : History} (e f : Event) → Valid n h → Held h e → Held h f → relates n h e f ≡ Ok (relation h e f)
@@ -61,18 +62,11 @@ precedes_decides {n} {h} e f v s t = Decides-like _ to from (Decides-and _ _ (De
     ]
 
     from : Chain h e f → ((e.post ≡ f.post) × (e.number ≡ f.number) → ⊥) × (e.number ≤ entry h f e.post)
-    from c = (λ w. no_cycle n h v f (subst (λ (x : Event). Chain h x f) (event_same e f w) c), (number_decides n h v e f s t).0 (inr c))
+    from c = (λ w. no_cycle n h v f (rw (event_same e f w) at c), (number_decides n h v e f s t).0 (inr c))
 
 -- The answer by two tests.
 abbrev named : Bool → Bool → Relation
 named b d = cond b Before (cond d After Concurrent)
-
--- tells answers apart
-abbrev rank : Result Relation AskFault → ℕ
-rank (Ok Before) = 1
-rank (Ok After) = 2
-rank (Ok Concurrent) = 3
-rank (Err f) = 0
 
 -- Tests that tell of C and of D, which are not both so, name C before, D after, and neither concurrent.
 record Names (C D : Type 0) (a : Result Relation AskFault) : Type 0 where
@@ -84,17 +78,17 @@ names : {C D : Type 0} (b d : Bool) → Decides b C → Decides d D → (C → D
 names true true p q apart = absurd (apart (p.0 refl) (q.0 refl))
 names true false p q apart = record {
   before = (λ _. p.0 refl, λ _. refl);
-  after = (λ e. absurd (omega (arith, ap rank e)), λ y. absurd (apart (p.0 refl) y));
-  concurrent = (λ e. absurd (omega (arith, ap rank e)), λ w. absurd (w.0 (p.0 refl)));
+  after = (λ e. cc, λ y. absurd (apart (p.0 refl) y));
+  concurrent = (λ e. cc, λ w. absurd (w.0 (p.0 refl)));
 }
 names false true p q apart = record {
-  before = (λ e. absurd (omega (arith, ap rank e)), λ x. absurd (apart x (q.0 refl)));
+  before = (λ e. cc, λ x. absurd (apart x (q.0 refl)));
   after = (λ _. q.0 refl, λ _. refl);
-  concurrent = (λ e. absurd (omega (arith, ap rank e)), λ w. absurd (w.1 (q.0 refl)));
+  concurrent = (λ e. cc, λ w. absurd (w.1 (q.0 refl)));
 }
 names false false p q apart = record {
-  before = (λ e. absurd (omega (arith, ap rank e)), λ x. absurd (false≢true (p.1 x)));
-  after = (λ e. absurd (omega (arith, ap rank e)), λ y. absurd (false≢true (q.1 y)));
+  before = (λ e. cc, λ x. absurd (false≢true (p.1 x)));
+  after = (λ e. cc, λ y. absurd (false≢true (q.1 y)));
   concurrent = (λ _. (λ x. false≢true (p.1 x), λ y. false≢true (q.1 y)), λ _. refl);
 }
 
@@ -117,13 +111,13 @@ related_is : {P : Rule} {n : ℕ} {g : History} {was is : ℕ → ℕ} {e f : Ev
 related_is relates_them = refl
 
 -- Any two stations relate alike the events that both hold, as the chains say.
-pub relate_alike : (P Q : Rule) (m n : ℕ) (s t : ℕ → ℕ) (cs ds : List Call) (xs ys : List Reply) → Run P m [] s cs xs → Run Q n [] t ds ys → RelateAlike cs xs ds ys
-relate_alike P Q m n s t cs ds xs ys x y e f a b g h at_g at_h same ge he gf hf =
+pub relate_alike : {P Q : Rule} {m n : ℕ} {s t : ℕ → ℕ} {cs ds : List Call} {xs ys : List Reply} → Run P m [] s cs xs → Run Q n [] t ds ys → RelateAlike cs xs ds ys
+relate_alike x y e f a b g h at_g at_h same ge he gf hf =
     let u = asked_turn start x at_g in
     let w = asked_turn start y at_h in
     let a_is = related_is u.says ∙ relates_held e f u.valid ge gf in
     let b_is = related_is w.says ∙ relates_held e f w.valid he hf in
-    (a_is ∙ ap Ok (relation_agree e f u.valid w.valid same ge he gf hf) ∙ sym b_is, subst (ByChains g e f) (sym a_is) (by_chains e f u.valid ge gf))
+    (rw (a_is, b_is, relation_agree e f u.valid w.valid same ge he gf hf), rw a_is (by_chains e f u.valid ge gf))
 
 -- Over used stations.
 
@@ -141,8 +135,7 @@ pub barred_history : {c : Call} {a : Reply} {g : History} {h : History} {cs : Li
 barred_history here e = refl
 barred_history (later {h = h} {d = d} {cs = cs} {b = b} {xs = xs} at) e =
     let first : b ≡ barred d = cc in
-    let rest : xs ≡ map barred cs = cc in
-    barred_history at rest ∙ ap (λ (x : Reply). after d x h) first ∙ barred_after d h
+    rw (first, barred_after d h) at (barred_history at (cc))
 
 none_held : {g : History} {e : Event} → g ≡ [] → Held g e → ⊥
 none_held {e = e} same t = go (subst (λ (x : History). Held x e) same t)

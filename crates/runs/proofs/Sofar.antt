@@ -1,10 +1,10 @@
 -- Turns played one after the other: what holds of the first k.
-use Rattle.std.proofs.Common.{◌≡◌, ℕ, ◌+◌, ◌<◌, true, List, [], ◌∷◌, ◌++◌, map, length, get_or, take, drop, set, sym, refl, ap, ◌∙◌, subst, ap₂, subst₂, add-zero, arith}
+use Rattle.std.proofs.Common.{◌≡◌, ℕ, ◌+◌, ◌<◌, true, List, [], ◌∷◌, ◌++◌, map, length, get_or, take, drop, set, refl, ap, ◌∙◌, sym, add-zero, arith}
 use lib.Seq.{append_snoc}
-use Rattle.std.proofs.lemmas.List.{append-nil, length-map, length_push, length-set, length-take-le, map_more, map_push, take_more_set, drop-drop, drop-set-lt, get_or-drop}
+use Rattle.std.proofs.lemmas.List.{append-nil, length-map, length_push, length-set, length-take, map_more, map_push, take_more_set, drop-drop, drop-set-lt, get_or-drop}
 use Rattle.cluster.proofs.Clusters.{limit_kept, together_stays}
-use Rattle.cluster.specs.Rules.{Rule}
-use Rattle.keeper.specs.Piles.{Pile}
+use Rattle.cluster.specs.declared.policy.Policy.{Ghosts as OfPolicy}
+use Rattle.keeper.specs.declared.Keeper.{Ghosts as OfKeeper}
 use Rattle.order.specs.History.{History}
 use Rattle.station.specs.Stands.{Stands}
 use Rattle.station.specs.declared.state.Station.{Station}
@@ -19,14 +19,14 @@ use Rattle.runs.proofs.Histories.{says_clusters}
 use Rattle.runs.proofs.Turned.{Plays}
 
 -- Some calls were answered: whatever more would be answered from there on, the whole is a run.
-pub record Goes {P K : Type 0} (rule : P → Rule) (sound : K → Type 0) (meaning : K → Pile) (was is : Station P K) (h : History) (cs : List Call) (xs : List Reply) : Type 0 where
+pub record Goes {P K : Type 0} (policy : OfPolicy P) (keeper : OfKeeper K) (was is : Station P K) (h : History) (cs : List Call) (xs : List Reply) : Type 0 where
   pub even : length cs ≡ length xs
-  pub stands : Stands rule sound meaning is (after_all cs xs h)
+  pub stands : Stands policy keeper is (after_all cs xs h)
   pub same_policy : is.policy ≡ was.policy
-  pub same_posts : (meaning is.keeper).posts ≡ (meaning was.keeper).posts
+  pub same_posts : (keeper.meaning is.keeper).posts ≡ (keeper.meaning was.keeper).posts
   pub whole : (ds : List Call) (ys : List Reply)
-      → Run (rule was.policy) (meaning was.keeper).posts (after_all cs xs h) (meaning is.keeper).space ds ys
-      → Run (rule was.policy) (meaning was.keeper).posts h (meaning was.keeper).space (cs ++ ds) (xs ++ ys)
+      → Run (policy.rule was.policy) (keeper.meaning was.keeper).posts (after_all cs xs h) (keeper.meaning is.keeper).space ds ys
+      → Run (policy.rule was.policy) (keeper.meaning was.keeper).posts h (keeper.meaning was.keeper).space (cs ++ ds) (xs ++ ys)
 
 after_all_more : (cs : List Call) (xs : List Reply) (h : History) (c : Call) (a : Reply) → length cs ≡ length xs
     → after_all (cs ++ c ∷ []) (xs ++ a ∷ []) h ≡ after c a (after_all cs xs h)
@@ -36,134 +36,96 @@ after_all_more (d ∷ cs) [] h c a e = absurd (omega arith)
 after_all_more (d ∷ cs) (b ∷ xs) h c a e = after_all_more cs xs (after d b h) c a (omega arith)
 
 -- one more call
-goes_more : {P K : Type 0} (rule : P → Rule) (sound : K → Type 0) (meaning : K → Pile) (was mid is : Station P K) (h : History) (cs : List Call) (xs : List Reply) (c : Call) (a : Reply)
-    → Goes rule sound meaning was mid h cs xs → Played rule sound meaning mid is (after_all cs xs h) c a
-    → Goes rule sound meaning was is h (cs ++ c ∷ []) (xs ++ a ∷ [])
-goes_more {P} {K} rule sound meaning was mid is h cs xs c a g p = record {
-  even = length_push cs c ∙ ap (λ (n : ℕ). n + 1) g.even ∙ sym (length_push xs a);
-  stands = subst (Stands rule sound meaning is) (sym next) p.stands;
+goes_more : {P K : Type 0} (policy : OfPolicy P) (keeper : OfKeeper K) (was mid is : Station P K) (h : History) (cs : List Call) (xs : List Reply) (c : Call) (a : Reply)
+    → Goes policy keeper was mid h cs xs → Played policy keeper mid is (after_all cs xs h) c a
+    → Goes policy keeper was is h (cs ++ c ∷ []) (xs ++ a ∷ [])
+goes_more policy keeper was mid is h cs xs c a g p = record {
+  even = simp length_push (ap (λ (n : ℕ). n + 1) g.even);
+  stands = rw next p.stands;
   same_policy = p.same_policy ∙ g.same_policy;
   same_posts = p.same_posts ∙ g.same_posts;
-  whole = λ ds ys rest.
-      subst₂ (Run R n h (meaning was.keeper).space) (sym (append_snoc cs c ds)) (sym (append_snoc xs a ys))
-      (g.whole (c ∷ ds) (a ∷ ys) (turn says kept (subst (λ (x : History). Run R n x (meaning is.keeper).space ds ys) next rest)));
+  whole = λ ds ys rest. rw (append_snoc cs c ds, append_snoc xs a ys) (g.whole (c ∷ ds) (a ∷ ys) (turn says kept (rw next at rest)));
 }
   where
-    R : Rule
-    R = rule was.policy
-
-    n : ℕ
-    n = (meaning was.keeper).posts
-
-    there : History
-    there = after_all cs xs h
-
     next : after_all (cs ++ c ∷ []) (xs ++ a ∷ []) h ≡ after c a (after_all cs xs h)
     next = after_all_more cs xs h c a g.even
 
-    says : Says (rule was.policy) (meaning was.keeper).posts (after_all cs xs h) (meaning mid.keeper).space c a (meaning is.keeper).space
-    says = subst₂ (λ (S : P) (m : ℕ). Says (rule S) m (after_all cs xs h) (meaning mid.keeper).space c a (meaning is.keeper).space) g.same_policy g.same_posts p.says
+    says : Says (policy.rule was.policy) (keeper.meaning was.keeper).posts (after_all cs xs h) (keeper.meaning mid.keeper).space c a (keeper.meaning is.keeper).space
+    says = rw (g.same_policy, g.same_posts) at p.says
 
-    kept : ClustersKept (rule was.policy) (meaning was.keeper).posts (after_all cs xs h) (after c a (after_all cs xs h))
-    kept = subst₂ (λ (S : P) (m : ℕ). ClustersKept (rule S) m (after_all cs xs h) (after c a (after_all cs xs h))) g.same_policy g.same_posts
-        (says_clusters limit_kept together_stays g.stands.few g.stands.valid p.says)
+    kept : ClustersKept (policy.rule was.policy) (keeper.meaning was.keeper).posts (after_all cs xs h) (after c a (after_all cs xs h))
+    kept = rw (g.same_policy, g.same_posts) at (says_clusters limit_kept together_stays g.stands.few g.stands.valid p.says)
 
 -- What holds after the first k turns.
-pub record Sofar {P K : Type 0} (rule : P → Rule) (sound : K → Type 0) (meaning : K → Pile) (was is : Station P K) (k : ℕ) (turns later : List Turn) (answers written : List Answer) : Type 0 where
+pub record Sofar {P K : Type 0} (policy : OfPolicy P) (keeper : OfKeeper K) (was is : Station P K) (k : ℕ) (turns later : List Turn) (answers written : List Answer) : Type 0 where
   pub turns_kept : length later ≡ length turns
-  pub answers_kept : length written ≡ length answers
   pub turns_rest : drop k later ≡ drop k turns
   pub answers_rest : drop k written ≡ drop k answers
   pub arguments : calls k later ≡ with_slices (calls k turns) (take k later)
   pub barred : was.barred ≡ true → (replies k later written ≡ map refusal (calls k turns)) × (is ≡ was)
-  pub goes : (h : History) → Stands rule sound meaning was h → Goes rule sound meaning was is h (calls k turns) (replies k later written)
-
-pub sofar_none : {P K : Type 0} (rule : P → Rule) (sound : K → Type 0) (meaning : K → Pile) (was : Station P K) (turns : List Turn) (answers : List Answer)
-    → Sofar rule sound meaning was was 0 turns turns answers answers
-sofar_none rule sound meaning was turns answers = record {
-  turns_kept = refl;
-  answers_kept = refl;
-  turns_rest = refl;
-  answers_rest = refl;
-  arguments = refl;
-  barred = λ e. (refl, refl);
-  goes = λ h s. record { even = refl; stands = s; same_policy = refl; same_posts = refl; whole = λ ds ys r. r };
-}
+  pub goes : (h : History) → Stands policy keeper was h → Goes policy keeper was is h (calls k turns) (replies k later written)
 
 same_at : {X : Type 0} (k : ℕ) (xs ys : List X) (d : X) → drop k xs ≡ drop k ys → get_or xs k d ≡ get_or ys k d
-same_at k xs ys d e =
-    subst (λ (i : ℕ). get_or xs i d ≡ get_or ys i d) (add-zero k)
-    (sym (get_or-drop k xs 0 d) ∙ ap (λ l. get_or l 0 d) e ∙ get_or-drop k ys 0 d)
+same_at k xs ys d e = sym (rw (add-zero, e) at (get_or-drop k xs 0 d)) ∙ (rw add-zero at (get_or-drop k ys 0 d))
 
 rest_more : {X : Type 0} (k : ℕ) (xs ys : List X) (y : X) → drop k xs ≡ drop k ys → drop (k + 1) (set xs k y) ≡ drop (k + 1) ys
-rest_more k xs ys y e =
-    drop-set-lt (k + 1) xs k y (omega arith) ∙ sym (drop-drop 1 k xs) ∙ ap (λ l. drop 1 l) e ∙ drop-drop 1 k ys
+rest_more k xs ys y e = rw (drop-set-lt (k + 1) xs k y (omega arith), ← drop-drop 1 k xs, e, drop-drop 1 k ys)
 
 paired_push : (ts : List Turn) (as' : List Answer) (t : Turn) (a : Answer) → length ts ≡ length as'
     → paired (ts ++ t ∷ []) (as' ++ a ∷ []) ≡ paired ts as' ++ reply_of t a ∷ []
 paired_push [] [] t a e = refl
 paired_push [] (b ∷ as') t a e = absurd (omega arith)
 paired_push (u ∷ ts) [] t a e = absurd (omega arith)
-paired_push (u ∷ ts) (b ∷ as') t a e = ap {B = List Reply} (λ l. reply_of u b ∷ l) (paired_push ts as' t a (omega arith))
+paired_push (u ∷ ts) (b ∷ as') t a e = rw (paired_push ts as' t a (omega arith))
 
 with_slices_push : (cs : List Call) (ts : List Turn) (c : Call) (t : Turn) → length cs ≡ length ts
     → with_slices (cs ++ c ∷ []) (ts ++ t ∷ []) ≡ with_slices cs ts ++ with_slice c (slice_of t) ∷ []
 with_slices_push [] [] c t e = refl
 with_slices_push [] (u ∷ ts) c t e = absurd (omega arith)
 with_slices_push (d ∷ cs) [] c t e = absurd (omega arith)
-with_slices_push (d ∷ cs) (u ∷ ts) c t e = ap {B = List Call} (λ l. with_slice d (slice_of u) ∷ l) (with_slices_push cs ts c t (omega arith))
+with_slices_push (d ∷ cs) (u ∷ ts) c t e = rw (with_slices_push cs ts c t (omega arith))
 
 -- the next turn: u is what the turn at place k is afterwards
-pub sofar_more : {P K : Type 0} (rule : P → Rule) (sound : K → Type 0) (meaning : K → Pile) (was mid is : Station P K) (k : ℕ) (turns later : List Turn) (answers written : List Answer)
+pub sofar_more : {P K : Type 0} (policy : OfPolicy P) (keeper : OfKeeper K) (was mid is : Station P K) (k : ℕ) (turns later : List Turn) (answers written : List Answer)
     (d u : Turn) (a : Answer)
-    → Sofar rule sound meaning was mid k turns later answers written → k < length later → k < length written
-    → Plays rule sound meaning mid is (call_of (get_or later k d)) (reply_of u a) (call_of u) (slice_of u)
-    → Sofar rule sound meaning was is (k + 1) turns (set later k u) answers (set written k a)
-sofar_more {P} {K} rule sound meaning was mid is k turns later answers written d u a s lt la p = record {
+    → Sofar policy keeper was mid k turns later answers written → k < length later → k < length written
+    → Plays policy keeper mid is (call_of (get_or later k d)) (reply_of u a) (call_of u) (slice_of u)
+    → Sofar policy keeper was is (k + 1) turns (set later k u) answers (set written k a)
+sofar_more {P} {K} policy keeper was mid is k turns later answers written d u a s lt la p = record {
   turns_kept = length-set later k u ∙ s.turns_kept;
-  answers_kept = length-set written k a ∙ s.answers_kept;
   turns_rest = rest_more k later turns u s.turns_rest;
   answers_rest = rest_more k written answers a s.answers_rest;
   arguments =
-      ap (map call_of) turns_more ∙ map_push call_of (take k later) u
-      ∙ ap₂ {C = List Call} (λ l c. l ++ c ∷ []) s.arguments p.arguments
-      ∙ sym (ap₂ {C = List Call} with_slices calls_more turns_more
-      ∙ with_slices_push (calls k turns) (take k later) (call_of (get_or later k d)) u even);
+      rw (turns_more, calls_more, map_push call_of (take k later) u, with_slices_push (calls k turns) (take k later) (call_of (get_or later k d)) u even, ← s.arguments, p.arguments);
   barred = λ e.
       let w = s.barred e in
-      let q = p.barred (ap (λ (x : Station P K). x.barred) w.1 ∙ e) in (
-        replies_more ∙ ap₂ {C = List Reply} (λ l x. l ++ x ∷ []) w.0 q.0
-            ∙ sym (ap (map refusal) calls_more ∙ map_push refusal (calls k turns) (call_of (get_or later k d))),
-        q.1 ∙ w.1,
-      );
+      let q = p.barred (ap (λ (x : Station P K). x.barred) w.1 ∙ e) in
+      (rw (replies_more, calls_more, map_push refusal (calls k turns) (call_of (get_or later k d)), w.0, q.0), q.1 ∙ w.1);
   goes = λ h st.
       let g = s.goes h st in
-      subst₂ (Goes rule sound meaning was is h) (sym calls_more) (sym replies_more)
-      (goes_more rule sound meaning was mid is h (calls k turns) (replies k later written) (call_of (get_or later k d)) (reply_of u a) g (p.played (after_all (calls k turns) (replies k later written) h) g.stands));
+      rw (calls_more, replies_more)
+      (goes_more policy keeper was mid is h (calls k turns) (replies k later written) (call_of (get_or later k d)) (reply_of u a) g (p.played _ g.stands));
 }
   where
     turns_more : take (k + 1) (set later k u) ≡ take k later ++ u ∷ []
     turns_more = take_more_set later k u lt
 
-    inside : k < length turns
-    inside = omega (arith, s.turns_kept)
-
     calls_more : calls (k + 1) turns ≡ calls k turns ++ call_of (get_or later k d) ∷ []
-    calls_more = map_more call_of turns k d inside ∙ ap (λ (x : Turn). calls k turns ++ call_of x ∷ []) (same_at k turns later d (sym s.turns_rest))
+    calls_more = rw (same_at k later turns d s.turns_rest) (map_more call_of turns k d (omega (arith, s.turns_kept)))
 
     replies_more : replies (k + 1) (set later k u) (set written k a) ≡ replies k later written ++ reply_of u a ∷ []
     replies_more =
-        ap₂ {C = List Reply} paired turns_more (take_more_set written k a la)
-        ∙ paired_push (take k later) (take k written) u a (length-take-le k later (omega arith) ∙ sym (length-take-le k written (omega arith)))
+        rw (turns_more, take_more_set written k a la)
+        (paired_push (take k later) (take k written) u a (simp length-take (omega arith)))
 
     even : length (calls k turns) ≡ length (take k later)
-    even = length-map (take k turns) call_of ∙ length-take-le k turns (omega arith) ∙ sym (length-take-le k later (omega arith))
+    even = simp (length-map, length-take) (omega (arith, s.turns_kept))
 
 -- the run, once no more is played
-pub goes_run : {P K : Type 0} (rule : P → Rule) (sound : K → Type 0) (meaning : K → Pile) (was is : Station P K) (h : History) (cs : List Call) (xs : List Reply)
-    → Goes rule sound meaning was is h cs xs → Replayed rule sound meaning was is h cs xs
-goes_run rule sound meaning was is h cs xs g = record {
-  run = subst₂ (Run (rule was.policy) (meaning was.keeper).posts h (meaning was.keeper).space) (append-nil cs) (append-nil xs) (g.whole [] [] end);
+pub goes_run : {P K : Type 0} {policy : OfPolicy P} {keeper : OfKeeper K} {was is : Station P K} {h : History} {cs : List Call} {xs : List Reply}
+    → Goes policy keeper was is h cs xs → Replayed policy keeper was is h cs xs
+goes_run g = record {
+  run = simp append-nil at (g.whole [] [] end);
   stands = g.stands;
   same_policy = g.same_policy;
   same_posts = g.same_posts;

@@ -1,5 +1,5 @@
 -- Turns and answers as calls and replies, by contents.
-use Rattle.std.specs.Prelude.{ℕ, List, [], ◌∷◌, map, take as first, vec_items}
+use Rattle.std.specs.Prelude.{◌≡◌, ℕ, List, [], ◌∷◌, map, take as first, drop, vec_items}
 use Rattle.runs.specs.Calls.{Call, Reply}
 use Rattle.runs.specs.Calls.Call.{take, feed, relate, reach, horizon, heard, cluster}
 use Rattle.runs.specs.Calls.Reply.{took, fed, related, reached, wrote, heard_of, clustered}
@@ -67,3 +67,7 @@ abbrev pub with_slices : List Call → List Turn → List Call
 with_slices [] turns = []
 with_slices (c ∷ cs) [] = []
 with_slices (c ∷ cs) (t ∷ ts) = with_slice c (slice_of t) ∷ with_slices cs ts
+
+-- past the first k, turns and answers are as they were
+abbrev pub RestKept : ℕ → List Turn → List Turn → List Answer → List Answer → Type 0
+RestKept k turns later answers written = (drop k later ≡ drop k turns) × (drop k written ≡ drop k answers)

@@ -1,10 +1,9 @@
 // Playing turns on a station one after the other.
-ghost use Rattle.std.specs.Prelude.{◌≡◌, min, true, map, length, take, drop};
-ghost use Rattle.order.specs.History.{History};
+ghost use Rattle.std.specs.Prelude.{◌≡◌, min, true, map, length, take};
 ghost use Rattle.runs.specs.Calls.{barred as refusal};
 ghost use Rattle.runs.specs.Played.{Replayed};
-ghost use Rattle.runs.specs.Views.{calls, replies, with_slices};
-ghost use Rattle.station.specs.Stands.{Stands};
+ghost use Rattle.runs.specs.Views.{calls, replies, with_slices, RestKept};
+ghost use Rattle.station.specs.Stands.{Wherever};
 
 use super::playing::play;
 use super::turns::{Answer, Turn};
@@ -13,7 +12,7 @@ use keeper::Keeper;
 use station::state::Station;
 
 // Makes as many of the turns as there are places for answers, in order, and says how many. It takes no memory, so
-// it cannot stop early.
+// it cannot stop early. The two lists are no list of pairs, since either may be the longer.
 pub fn replay<P: Policy + Drop, K: Keeper + Drop>(
     station: &mut Station<P, K>,
     turns: &mut [Turn],
@@ -21,11 +20,12 @@ pub fn replay<P: Policy + Drop, K: Keeper + Drop>(
 ) -> usize
     ensures count { result ≡ min (length turns.old) (length answers.old) }
     ensures barred { station.old.barred ≡ true → (replies result turns.new answers.new ≡ map refusal (calls result turns.old)) × (station.new ≡ station.old) }
-    ensures played { (h : History) → Stands P.rule K.sound K.meaning station.old h → Replayed P.rule K.sound K.meaning station.old station.new h (calls result turns.old) (replies result turns.new answers.new) }
+    ensures played { Wherever P.Policy K.Keeper station.old (λ _ _ h. Replayed P.Policy K.Keeper station.old station.new h (calls result turns.old) (replies result turns.new answers.new)) }
     ensures arguments { calls result turns.new ≡ with_slices (calls result turns.old) (take result turns.new) }
-    ensures rest { (drop result turns.new ≡ drop result turns.old) × (drop result answers.new ≡ drop result answers.old) }
+    ensures rest { RestKept result turns.old turns.new answers.old answers.new }
 {
     let count = turns.len().min(answers.len());
+    // By place: of slices that are zipped by `iter_mut`, a proof knows no element afterwards.
     for place in 0..count {
         answers[place] = play(station, &mut turns[place]);
     }

@@ -1,4 +1,5 @@
-// The comparison over the supplied keepers, opened over lent memory: nothing is left to assume of a pile.
+// The comparison over the supplied keepers, opened over lent memory: nothing is left to assume of a pile. Both functions
+// are `compare`, at piles that are opened over different things. Each side's arguments stay apart, as there.
 ghost use Rattle.std.specs.Prelude.{◌≡◌, min, length};
 ghost use Rattle.columns.specs.Sound.{column_width};
 ghost use Rattle.keeper.specs.Piles.{fresh, opened};

@@ -1,14 +1,8 @@
 use Rattle.runs.proofs.Compared.{related_alike, turns_alike}
 use Rattle.runs.proofs.comparing.compare.Goals as goal
 
-pub returns : goal.returns
-returns g c =
-    let a = c.run-a.ensures in
-    let b = c.run-b.ensures in
-    record {
-      count = (a.count, b.count);
-      rest = (a.rest, b.rest);
-      relate = λ s t. related_alike _ _ _ _ _ _ _ _ (a.each s) (b.each t);
-      equal_turns = λ s t o e. turns_alike _ _ _ _ _ _ _ _ (a.each s) (b.each t) o e;
-      each = (a.each, b.each);
-    }
+pub returns-clause-relate : goal.returns-clause-relate
+returns-clause-relate g c = λ s t. related_alike (c.run-a.ensures.each s) (c.run-b.ensures.each t)
+
+pub returns-clause-equal_turns : goal.returns-clause-equal_turns
+returns-clause-equal_turns g c = λ s t o e. turns_alike (c.run-a.ensures.each s) (c.run-b.ensures.each t) o e
