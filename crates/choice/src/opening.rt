@@ -31,6 +31,6 @@ pub struct Opening {
     pub posts: u8,
     pub policy: PolicyChoice,
     pub keeper: KeeperChoice,
-    // From the bottom up; bare ones stand above the others.
-    pub layers: [LayerChoice; 8],
+    // From the bottom up; bare ones stand above the others. An opening is `Copy`, which a `Vec` of layers would end.
+    pub layers: [LayerChoice; MOST_LAYERS],
 }

@@ -1,13 +1,7 @@
 -- What is printed of an event: post, number, outcome and entries, parted by spaces.
 use Rattle.std.specs.Prelude.{ℕ, List, ◌++◌, codes, decimal}
-use Rattle.cluster.specs.declared.outcome.Outcome.{Outcome}
-use Rattle.cluster.specs.declared.outcome.Outcome.TheVariants.{Plain, Merged, Across}
+use Rattle.cluster.specs.Outcomes.{word}
 use Rattle.report.specs.declared.Line.{Line}
 
-abbrev pub word : Outcome → List ℕ
-word Plain = codes "plain"
-word Merged = codes "merged"
-word Across = codes "across"
-
 abbrev pub printed : Line → List ℕ
-printed l = decimal l.post ++ (codes " " ++ (decimal l.number ++ (codes " " ++ (word l.outcome ++ (codes " " ++ decimal l.entries)))))
+printed l = decimal l.event.post ++ (codes " " ++ (decimal l.event.number ++ (codes " " ++ (word l.taken.outcome ++ (codes " " ++ decimal l.taken.entries)))))

@@ -1,5 +1,5 @@
 -- What a report tells of a feed.
-use Rattle.std.specs.Prelude.{◌≡◌, ℕ, ◌+◌, ◌-◌, ◌*◌, ◌%◌, ◌^◌, min, List, [], ◌∷◌, length, Some, None, vec_items, vec_len, Option, ◌≢◌}
+use Rattle.std.specs.Prelude.{◌≡◌, ℕ, ◌-◌, ◌*◌, ◌%◌, ◌^◌, min, List, length, sum_by, Some, None, vec_items, vec_len, Option, ◌≢◌}
 use Rattle.keeper.specs.Piles.{price}
 use Rattle.order.specs.Records.{Bytes}
 use Rattle.report.specs.declared.Line.{Line}
@@ -8,9 +8,8 @@ use Rattle.station.specs.declared.faults.FeedFault.{FeedFault}
 use Rattle.station.specs.declared.faults.FeedFault.TheVariants.{Ragged, Take}
 
 -- the cells that the stamps of some events cost
-unfoldable pub cost : List Line → ℕ
-cost [] = 0
-cost (l ∷ ls) = price l.entries + cost ls
+abbrev pub cost : List Line → ℕ
+cost ls = sum_by (λ l. price l.taken.entries) ls
 
 -- where a report of so many lines on a feed of so many bytes stops
 abbrev pub Stops : Option FeedFault → ℕ → ℕ → Type 0

@@ -1,10 +1,12 @@
 // Reading the input that a program is given.
-ghost use Rattle.std.specs.Prelude.{◌≤◌, length, IfOk};
+ghost use Rattle.std.specs.Prelude.{◌≤◌, length, IfOk, vec_len};
 
+use std::alloc::Global;
 use std::io;
 use std::io::Read;
 
-// Fills the buffer from its start, and says how far the input went.
+// Fills the buffer from its start, and says how far the input went. By a loop, since the library fills no lent buffer from an
+// input that may end before it.
 pub fn fill<R: Read>(input: &mut R, buffer: &mut [u8]) -> io::Result<usize>
     ensures { IfOk result (λ n. n ≤ length buffer.old) }
 {
@@ -17,4 +19,15 @@ pub fn fill<R: Read>(input: &mut R, buffer: &mut [u8]) -> io::Result<usize>
         len += more;
     }
     Ok(len)
+}
+
+// Reads the input to its end, but no further than `most` bytes.
+pub fn read_all<R: Read>(alloc: Global, input: &mut R, most: usize) -> io::Result<Vec<u8>>
+    ensures { IfOk result (λ bytes. vec_len bytes ≤ most) }
+{
+    let mut bytes = Vec::new(alloc);
+    input.take(most as u64).read_to_end(&mut bytes)?;
+    // `take` promises nothing of the length where it is not known what the input holds.
+    bytes.truncate(most);
+    Ok(bytes)
 }

@@ -1,70 +1,65 @@
 // What a shift's feed comes to: the events taken, where it stops, and what the stamps cost.
 #![tactic(auto)]
 
-ghost use Rattle.std.specs.Prelude.{◌≡◌, ◌≤◌, length, IfOk, string_bytes};
+ghost use Rattle.std.specs.Prelude.{◌≡◌, ◌≤◌, length, IfOk, Some, string_bytes};
 ghost use Rattle.order.specs.Records.{number as number_of, post as post_of};
-ghost use Rattle.report.specs.Lines.{printed, word};
+ghost use Rattle.report.specs.Lines.{printed};
 ghost use Rattle.report.specs.Reports.{Reported};
 
-use cluster::outcome::Outcome;
 use cluster::policy::Policy;
 use keeper::Keeper;
 use keeper::admit::price;
+use order::event::Event;
 use order::record::RECORD_LEN;
 use station::faults::{FeedFault, Taken};
 use station::state::Station;
 use std::alloc::{AllocError, Global};
+use std::fmt;
 
 pub mod input;
 pub mod program;
+#[cfg(test)]
+mod tests;
 
-// An event that was taken: its name, what the cluster rule made of it, and the number of entries kept.
-#[derive(Clone, Copy)]
+// An event that was taken, and what the station answered.
+#[derive(Clone, Copy, PartialEq, Eq, Debug)]
 pub struct Line {
-    pub post: u8,
-    pub number: u16,
-    pub outcome: Outcome,
-    pub entries: u8,
+    pub event: Event,
+    pub taken: Taken,
 }
 
-fn word_of(outcome: Outcome) -> &'static str
-    ensures { result.now ≡ word outcome }
-{
-    match outcome {
-        Outcome::Plain => "plain",
-        Outcome::Merged => "merged",
-        Outcome::Across => "across",
+impl fmt::Display for Line {
+    ghost output = { λ line. Some (printed line) };
+
+    fn fmt<W: fmt::Write>(&self, f: &mut fmt::Formatter<W>) -> fmt::Result {
+        let Event { post, number } = self.event;
+        let Taken { outcome, entries } = self.taken;
+        write!(f, "{post} {number} {outcome} {entries}")
     }
 }
 
 // What is printed of an event.
-pub fn text(heap: Global, line: Line) -> Result<String, AllocError>
+pub fn text(alloc: Global, line: Line) -> Result<String, AllocError>
     ensures { IfOk result (λ t. string_bytes t ≡ printed line) }
 {
-    let post = line.post;
-    let number = line.number;
-    let word = word_of(line.outcome);
-    let entries = line.entries;
-    format!(in heap; "{post} {number} {word} {entries}")
+    line.to_string(alloc)
 }
 
 // The line of a record of eight bytes that was taken.
+#[tactic(auto, unfolding(order::specs::Records::number, order::specs::Records::post))]
 pub fn line_of(bytes: &[u8], taken: Taken) -> Line
-    ensures answer { (result.outcome ≡ taken.outcome) × (result.entries ≡ taken.entries) }
-    ensures event { length bytes.now ≡ 8 → (result.post ≡ post_of bytes.now) × (result.number ≡ number_of bytes.now) }
+    ensures answer { result.taken ≡ taken }
+    ensures event { length bytes.now ≡ 8 → (result.event.post ≡ post_of bytes.now) × (result.event.number ≡ number_of bytes.now) }
 {
-    let mut post = 0;
-    let mut number = 0;
-    if bytes.len() == RECORD_LEN {
-        post = bytes[0];
-        number = u16::from_be_bytes([bytes[2], bytes[3]]);
-    }
-    Line {
-        post,
-        number,
-        outcome: taken.outcome,
-        entries: taken.entries,
-    }
+    let event = match bytes {
+        [post, _, high, low, _, _, _, _] => Event {
+            post: *post,
+            number: u16::from_be_bytes([*high, *low]),
+        },
+        // It answers for any bytes, and no event is numbered 0.
+        _ => Event { post: 0, number: 0 },
+    };
+    Line { event, taken }
 }
 
 // The events taken, why no more were, and the sum of the prices of their stamps.
@@ -77,41 +72,34 @@ pub struct Report {
 
 // Takes each record of a feed in order, up to the first that is refused.
 pub fn work<P: Policy + Drop, K: Keeper + Drop>(
-    heap: Global,
+    alloc: Global,
     station: &mut Station<P, K>,
     feed: &[u8],
 ) -> Result<Report, AllocError>
     ensures { IfOk result (λ x. Reported feed.now x) }
 {
-    let mut lines = Vec::new(heap);
-    let mut prices: usize = 0;
-    if feed.len() % RECORD_LEN != 0 {
-        return Ok(Report {
-            lines,
-            refusal: Some(FeedFault::Ragged),
-            prices,
-        });
+    let mut report = Report {
+        lines: Vec::new(alloc),
+        refusal: None,
+        prices: 0,
+    };
+    let (records, rest) = feed.as_chunks::<RECORD_LEN>();
+    if !rest.is_empty() {
+        report.refusal = Some(FeedFault::Ragged);
+        return Ok(report);
     }
-    for taken in 0..feed.len() / RECORD_LEN {
-        let place = taken * RECORD_LEN;
-        let record = &feed[place..place + RECORD_LEN];
+    for (taken, record) in records.iter().enumerate() {
         match station.take(record) {
             Ok(answer) => {
-                lines.push(line_of(record, answer))?;
-                prices = prices.saturating_add(price(answer.entries));
+                report.lines.push(line_of(record, answer))?;
+                report.prices = report.prices.saturating_add(price(answer.entries));
             }
             Err(fault) => {
-                return Ok(Report {
-                    lines,
-                    refusal: Some(FeedFault::Take { place, fault }),
-                    prices,
-                });
+                let place = taken * RECORD_LEN;
+                report.refusal = Some(FeedFault::Take { place, fault });
+                return Ok(report);
             }
         }
     }
-    Ok(Report {
-        lines,
-        refusal: None,
-        prices,
-    })
+    Ok(report)
 }

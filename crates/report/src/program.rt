@@ -1,6 +1,6 @@
 // The shift program: four posts, first contact with limit 2, a pool of 4,096 cells.
-use super::input::fill;
-use super::{text, work};
+use super::input::read_all;
+use super::work;
 use cluster::policy::FirstContact;
 use station::state::Station;
 
@@ -15,22 +15,17 @@ const CELLS: usize = 4_096;
 
 // Feeds standard input to a station and prints what became of each record.
 pub fn run(rt: &HostRuntime) -> anyhow::Result<()> {
-    let mut buffer = vec![in rt.alloc(); 0u8; MOST]?;
-    let len = fill(&mut rt.stdin(), &mut buffer)?;
+    let feed = read_all(rt.alloc(), &mut rt.stdin(), MOST)?;
     let mut cells = vec![in rt.alloc(); 0u16; CELLS]?;
     let mut station = Station::open(FirstContact::new(LIMIT), pool::open(POSTS, &mut cells));
-    let report = work(rt.alloc(), &mut station, &buffer[0..len])?;
-    for line in report.lines.iter() {
-        let text = text(rt.alloc(), *line)?;
-        println!(rt; "{text}")?;
+    let report = work(rt.alloc(), &mut station, &feed)?;
+    for line in &report.lines {
+        println!(rt; "{line}")?;
     }
     if let Some(fault) = report.refusal {
-        let ground = fault.ground();
-        let place = fault.place();
-        println!(rt; "refused {ground} {place}")?;
+        // A Display of a fault would print these two numbers for this line alone.
+        println!(rt; "refused {} {}", fault.ground(), fault.place())?;
     }
-    let taken = report.lines.len();
-    let prices = report.prices;
-    println!(rt; "end {taken} {prices}")?;
+    println!(rt; "end {} {}", report.lines.len(), report.prices)?;
     Ok(())
 }

@@ -20,6 +20,6 @@ pub struct Side {
 pub struct Script {
     pub a: Side,
     pub b: Side,
-    // Whose turn each one is, in the script's order.
+    // Whose turn each one is, in the script's order. The turns lie apart, since those of a station are played as one slice.
     pub order: Vec<Name>,
 }

@@ -1,0 +1,29 @@
+use super::input::read_all;
+use super::{Line, text};
+use cluster::outcome::Outcome;
+use order::event::Event;
+use station::faults::Taken;
+use std::test::Fail;
+
+#[test]
+fn a_line_as_text(rt: HostRuntime) -> Result<(), Fail> {
+    let line = Line {
+        event: Event { post: 3, number: 1 },
+        taken: Taken {
+            outcome: Outcome::Merged,
+            entries: 2,
+        },
+    };
+    assert_eq!(rt; text(rt.alloc(), line)?.as_str(), "3 1 merged 2");
+    Ok(())
+}
+
+#[test]
+fn input_to_a_limit(rt: HostRuntime) -> Result<(), Fail> {
+    for (most, read) in [(0, 0), (2, 2), (3, 3), (4, 3)] {
+        let mut input: &[u8] = &[1, 2, 3];
+        let bytes = read_all(rt.alloc(), &mut input, most)?;
+        assert_eq!(rt; bytes.as_slice(), &[1, 2, 3][..read]);
+    }
+    Ok(())
+}
