@@ -21,13 +21,13 @@ pub fn fill<R: Read>(input: &mut R, buffer: &mut [u8]) -> io::Result<usize>
     Ok(len)
 }
 
-// Reads the input to its end, but no further than `most` bytes.
-pub fn read_all<R: Read>(alloc: Global, input: &mut R, most: usize) -> io::Result<Vec<u8>>
+// Reads the input to its end, but no further than `most` bytes. Not by `read_to_end`, which asks for little at a time: of an
+// input that comes in messages, what a read has no room for is lost. And the memory is had before anything is read.
+pub fn read_all<R: Read>(alloc: Global, input: &mut R, most: usize) -> anyhow::Result<Vec<u8>>
     ensures { IfOk result (λ bytes. vec_len bytes ≤ most) }
 {
-    let mut bytes = Vec::new(alloc);
-    input.take(most as u64).read_to_end(&mut bytes)?;
-    // `take` promises nothing of the length where it is not known what the input holds.
-    bytes.truncate(most);
+    let mut bytes = vec![in alloc; 0; most]?;
+    let len = fill(input, &mut bytes)?;
+    bytes.truncate(len);
     Ok(bytes)
 }

@@ -3,6 +3,8 @@ use super::{Line, text};
 use cluster::outcome::Outcome;
 use order::event::Event;
 use station::faults::Taken;
+use std::io;
+use std::io::Read;
 use std::test::Fail;
 
 #[test]
@@ -25,5 +27,28 @@ fn input_to_a_limit(rt: HostRuntime) -> Result<(), Fail> {
         let bytes = read_all(rt.alloc(), &mut input, most)?;
         assert_eq!(rt; bytes.as_slice(), &[1, 2, 3][..read]);
     }
+    Ok(())
+}
+
+// An input in messages of 600 bytes, of which what a read has no room for is lost.
+#[derive(Drop)]
+struct Messages {
+    left: u8,
+}
+
+impl Read for Messages {
+    fn read(&mut self, buffer: &mut [u8]) -> io::Result<usize> {
+        if self.left == 0 {
+            return Ok(0);
+        }
+        self.left -= 1;
+        Ok(buffer.len().min(600))
+    }
+}
+
+#[test]
+fn input_in_messages(rt: HostRuntime) -> Result<(), Fail> {
+    let bytes = read_all(rt.alloc(), &mut Messages { left: 3 }, 65_536)?;
+    assert_eq!(rt; bytes.len(), 1_800);
     Ok(())
 }
