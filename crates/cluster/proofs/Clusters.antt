@@ -1,6 +1,6 @@
 -- Clusters: what the rule makes of a record, how a record changes the clusters, and that they stay a partition
 -- within the limit.
-use Rattle.std.proofs.Common.{◌≡◌, ℕ, ◌+◌, ◌^◌, ◌<◌, ◌≤◌, true, false, ◌⊎◌, [], ◌∷◌, sym, refl, ap, ◌∙◌, inl, inr, arith}
+use Rattle.std.proofs.Common.{◌≡◌, ℕ, ◌+◌, ◌^◌, ◌<◌, ◌≤◌, true, false, ◌⊎◌, [], ◌∷◌, sym, refl, ap, ◌∙◌, inl, inr, arith, pow_mono}
 use mathlib.Core.HLevel.{is_prop→PathP, Π_prop}
 use native.Mathlib.Bridge.{le_prop}
 use lib.Bits.{or_lt}
@@ -162,6 +162,9 @@ cluster_bits P {n} (taken {r = r} {h = h} v g) p l = go (moved P h r p) (λ x i.
     go : Moved P h r p → ((x : ℕ) → x < n → cluster P h x < 2 ^ n) → cluster P (r ∷ h) p < 2 ^ n
     go (stays e) ih = rw e (ih p l)
     go (joins two _ _ e) ih = let both = inside_both n h r g two in rw e (or_lt n (cluster P h (post r)) (cluster P h (partner_post r)) (ih (post r) both.0) (ih (partner_post r) both.1))
+
+pub cluster_fits : (P : Rule) {n : ℕ} {h : History} → n ≤ 64 → Valid n h → (p : ℕ) → p < n → cluster P h p < 2 ^ 64
+cluster_fits P {n} most v p l = omega (arith, cluster_bits P v p l, pow_mono most)
 
 pub limit_kept : LimitKept
 limit_kept P n h most start p l = omega (arith, ap size (cluster_start P p), size_single p (omega arith), P.least)

@@ -1,5 +1,5 @@
 -- What a table of exchanges tells of a history, and that its sum over two clusters is their exchanges.
-use Rattle.std.proofs.Common.{◌≡◌, ℕ, zero, suc, ◌+◌, ◌-◌, ◌^◌, ◌<◌, ◌≤◌, Bool, true, false, cond, ◌&&◌, eqb, ltb, ◌⊎◌, List, [], ◌∷◌, length, get_or, replicate, map, fold, filter, sum, sym, refl, ap, ◌∙◌, inl, inr, add-one, arith}
+use Rattle.std.proofs.Common.{◌≡◌, ℕ, zero, suc, ◌+◌, ◌-◌, ◌^◌, ◌<◌, ◌≤◌, true, false, cond, ◌&&◌, eqb, ltb, ◌⊎◌, List, [], ◌∷◌, length, get_or, replicate, map, fold, sum, sym, refl, ap, ◌∙◌, inl, inr, add-one, arith}
 use Rattle.std.proofs.lemmas.List.{get_or-replicate}
 use Rattle.std.proofs.lemmas.List.FromFn.{sum_by-map-range_with_len_more}
 use Rattle.std.proofs.lemmas.List.Sums.{sum_by-cons}
@@ -49,19 +49,14 @@ unfolding sum_below
 sum_range zero f = refl
 sum_range (suc n) f = omega (arith, ap (λ k. sum (map f (range_with_len 0 k))) (add-one n), sum_by-map-range_with_len_more (λ x. x) f 0 n n (omega arith), sum_range n f)
 
-sum_kept : (f : ℕ → ℕ) (t : ℕ → Bool) (xs : List ℕ) → sum (map f (filter t xs)) ≡ sum (map (λ x. cond (t x) (f x) 0) xs)
-sum_kept f t [] = refl
-sum_kept f t (x ∷ xs) =
-    let ih = sum_kept f t xs in
-    let d = sum_by-cons (λ n. n) (f x) (map f (filter t xs)) in
-    let e = sum_by-cons (λ n. n) (cond (t x) (f x) 0) (map (λ x. cond (t x) (f x) 0) xs) in
-    grind (arith, nat_tests)
+chained : (f g : ℕ → ℕ) → ((x : ℕ) → capped (f x) ≡ capped (g x)) → fold (λ a x. capped (a + x)) 0 (map f (range_with_len 0 64)) ≡ capped (sum_below 64 g)
+chained f g same = fold_capped f g same (range_with_len 0 64) 0 ∙ omega (arith, sum_range 64 g)
 
-pub chained_row : (f : ℕ → ℕ) (t : ℕ → Bool) → fold (λ a x. capped (a + x)) 0 (map f (filter t (range_with_len 0 64))) ≡ capped (sum_below 64 (λ q. cond (t q) (f q) 0))
-chained_row f t = fold_capped f f (λ _. refl) (filter t (range_with_len 0 64)) 0 ∙ omega (arith, sum_kept f t (range_with_len 0 64), sum_range 64 (λ q. cond (t q) (f q) 0))
+pub chained_row : (f : ℕ → ℕ) → fold (λ a x. capped (a + x)) 0 (map f (range_with_len 0 64)) ≡ capped (sum_below 64 f)
+chained_row f = chained f f (λ _. refl)
 
 pub chained_rows : (f : ℕ → ℕ) → fold (λ a x. capped (a + x)) 0 (map (λ p. capped (f p)) (range_with_len 0 64)) ≡ capped (sum_below 64 f)
-chained_rows f = fold_capped (λ p. capped (f p)) f (λ x. omega arith) (range_with_len 0 64) 0 ∙ omega (arith, sum_range 64 f)
+chained_rows f = chained (λ p. capped (f p)) f (λ x. omega arith)
 
 -- ---- one more receive
 

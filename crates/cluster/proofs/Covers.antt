@@ -1,6 +1,6 @@
 -- Covers and full events: what a cover has, which event is the latest full one, and where an entry that is not covered
 -- comes from.
-use Rattle.std.proofs.Common.{◌≡◌, ℕ, suc, ◌^◌, ◌<◌, ◌≤◌, true, false, ◌⊎◌, [], ◌∷◌, length, sym, refl, ap, ◌∙◌, subst, inl, inr, arith, pow_pos}
+use Rattle.std.proofs.Common.{◌≡◌, ℕ, suc, ◌^◌, ◌<◌, ◌≤◌, true, false, ◌⊎◌, [], ◌∷◌, length, sym, refl, ap, ◌∙◌, subst, inl, inr, arith, pow_pos, pow_mono}
 use lib.Bits.{or_lt}
 use lib.Pow.{ones_lt}
 use Rattle.std.proofs.lemmas.Bool.{cases_Bool, cases_eq, cases_lt, eq-eqb, ne_eqb, lt-ltb, both_ways}
@@ -48,6 +48,9 @@ module _ (P : Rule) (n : ℕ) (h : History) (r : Bytes) (v : Valid n h) (g : gro
       go _ (within two t) = own
       go _ (merges two f says) = or_lt n (cluster P h (post r)) (cluster P h (partner_post r)) own (cluster_bits P v (partner_post r) ((passed n h r g).pair two).inside)
       go _ (passes two f says) = ones_lt n
+
+  pub cover_fits : n ≤ 64 → cover P n h r < 2 ^ 64
+  cover_fits most = omega (arith, cover_bits, pow_mono most)
 
   pub cover_posts : (q : ℕ) → has (cover P n h r) q ≡ true → q < n
   cover_posts q t = has_below (cover P n h r) n q cover_bits t
@@ -120,6 +123,9 @@ cover_at_bits P {n} (taken {r = r} {h = h} v g) p k held = go p k (at r h p k he
     go : (p k : ℕ) → At r h p k → (k ≤ count h p → cover_at P n h p k < 2 ^ n) → cover_at P n (r ∷ h) p k < 2 ^ n
     go _ _ new ih = rw cover_at_new (cover_bits P n h r v g)
     go p k (old w) ih = omega (arith, cover_at_old P n r h p k w, ih w)
+
+pub cover_at_fits : (P : Rule) {n : ℕ} {h : History} → n ≤ 64 → Valid n h → (p k : ℕ) → k ≤ count h p → cover_at P n h p k < 2 ^ 64
+cover_at_fits P most v p k held = omega (arith, cover_at_bits P v p k held, pow_mono most)
 
 pub cover_at_posts : (P : Rule) {n : ℕ} {h : History} → Valid n h → (p k q : ℕ) → k ≤ count h p → has (cover_at P n h p k) q ≡ true → q < n
 cover_at_posts P {n} {h} v p k q held t = has_below (cover_at P n h p k) n q (cover_at_bits P v p k held) t

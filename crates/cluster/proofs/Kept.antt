@@ -1,13 +1,13 @@
 -- What is kept of events: entries by rank, what later records leave as it is, and that every entry comes back.
 use Rattle.std.proofs.Common.{◌≡◌, ℕ, zero, suc, ◌<◌, ◌≤◌, max, Bool, true, false, ◌&&◌, eqb, List, [], ◌∷◌, ◌++◌, map, length, sym, refl, ap, ◌∙◌, inl, inr, arith}
 use mathlib.Core.Path.{fun_ext}
-use Rattle.std.proofs.lemmas.List.{get_or-map, map-append}
+use Rattle.std.proofs.lemmas.List.{length-map, get_or-map, map-append}
 use Rattle.std.proofs.lemmas.Bool.Decides.{nat_tests}
 use Rattle.std.proofs.lemmas.Bool.{cases_Bool, or_from}
 use Rattle.keeper.specs.Piles.{Stamp, entry_of, with_mark}
 use Rattle.order.specs.History.{History, Valid, count, ground, kind_at, received}
 use Rattle.order.specs.History.Valid.{start, taken}
-use Rattle.order.specs.Posts.{has, below, members}
+use Rattle.order.specs.Posts.{has, below, members, size}
 use Rattle.order.specs.Records.{Bytes, post, kind, partner_post, partner_number, receives, kind_named}
 use Rattle.order.specs.Vectors.{vec}
 use Rattle.order.specs.declared.event.Kind.{Kind}
@@ -29,6 +29,10 @@ kept-cover P n h p k = refl
 pub kept_full : (P : Rule) (n : ℕ) (h : History) (p k : ℕ) → (kept P n h p k).full ≡ latest_full P n h p k
 unfolding kept
 kept_full P n h p k = refl
+
+pub kept-length : (P : Rule) (n : ℕ) (h : History) (p k : ℕ) → length (kept P n h p k).entries ≡ size (cover_at P n h p k)
+unfolding kept
+kept-length P n h p k = length-map (members (cover_at P n h p k)) (vec h p k)
 
 -- the entry for a covered post is the vector's
 pub kept_entry : (P : Rule) (n : ℕ) (h : History) (p k q : ℕ) → q < 64 → has (cover_at P n h p k) q ≡ true → entry_of (kept P n h p k) q ≡ vec h p k q

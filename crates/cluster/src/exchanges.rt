@@ -61,8 +61,11 @@ impl Exchanges {
         ensures { result ≡ capped (row_sum (told self.now) a.bits b.bits receiver) }
     {
         (0..MAX_POSTS)
-            .filter(|sender| linked(a, b, receiver, *sender))
-            .map(|sender| self.count(receiver, sender))
+            .map(|sender| if linked(a, b, receiver, sender) {
+                self.count(receiver, sender)
+            } else {
+                0
+            })
             .fold(0, u32::saturating_add)
     }
 
