@@ -28,7 +28,7 @@ use Rattle.std.proofs.lemmas.List.{length-map}
 use Rattle.std.proofs.lemmas.Result.{MatchResult-at_ok, MatchResult-at_err}
 use Rattle.std.proofs.lemmas.Bool.{cases_Bool, cond-true, cond-false, lt-ltb, le-leb, eq-eqb, and_from}
 use Rattle.station.proofs.Held.{grown_counts, holds_plain, holds_receive}
-use Rattle.station.specs.Drafts.{Drafted}
+use Rattle.station.specs.Drafts.{at, Drafted}
 use Rattle.station.specs.Entries.{Groups, Holds, Stamped, room_for}
 use Rattle.station.specs.Takes.{Pays}
 use Rattle.station.specs.declared.drafts.Draft.{Draft}
@@ -68,7 +68,7 @@ module _ (P : Rule) (n : ℕ) (h : History) (b : Bytes) (g : ground n h b ≡ 0)
 -- The pile.
 
 module _ {P : Rule} {n : ℕ} {h : History} {b : Bytes} {m : Pile} {d : Draft} (v : Valid n h) (few : n ≤ 64) (small : number b ≤ 65535) (posts : m.posts ≡ n) (held : Holds P n m h)
-    (dr : Drafted P n h b d) (entries : List ℕ) (are : entries ≡ d.entries.items) where
+    (dr : Drafted P n h b d) (entries : List ℕ) (are : entries ≡ map (at d.vector) (members d.header.cover.bits)) where
   g : ground n h b ≡ 0
   g = dr.due.fine
 

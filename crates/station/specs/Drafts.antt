@@ -38,4 +38,4 @@ pub record Drafted (P : Rule) (n : ℕ) (h : History) (b : Bytes) (d : Draft) : 
   pub kind_is : d.header.kind ≡ kind_named (kind b)
   pub cover_is : d.header.cover.bits ≡ cover P n h b
   pub full_is : d.header.full ≡ latest_full P n (b ∷ h) (post b) (number b)
-  pub entries_are : d.entries.items ≡ map (vec (b ∷ h) (post b) (number b)) (members (cover P n h b))
+  pub entries_are : map (at d.vector) (members d.header.cover.bits) ≡ map (vec (b ∷ h) (post b) (number b)) (members (cover P n h b))

@@ -1,6 +1,6 @@
 // What is decided of a record before anything changes.
-use arrayvec::ArrayVec;
 use cluster::outcome::Outcome;
+use join::vector::Vector;
 use keeper::admit::Header;
 use order::posts::PostSet;
 use order::record::Record;
@@ -13,11 +13,11 @@ pub struct Ruling {
 }
 
 // A record with the stamp that it is to have.
-#[derive(Debug, Drop)]
+#[derive(Clone, Copy, Debug)]
 pub struct Draft {
     pub record: Record,
     pub outcome: Outcome,
     pub header: Header,
-    // The entries for the posts of the cover, ascending.
-    pub entries: ArrayVec<u16, 64>,
+    // The full vector of the event, of which the entries for the posts of the cover are kept.
+    pub vector: Vector,
 }

@@ -22,7 +22,7 @@ impl<P: Policy + Drop, K: Keeper + Drop> Station<P, K> {
         ensures kept { Wherever P.Policy K.Keeper self.old (λ R n h. (b : Bytes) → number_of b ≤ 65535 → Drafted R n h b draft.now → K.sound self.new.keeper × (result ≡ room_for R n h b ((K.meaning self.old.keeper).space (post_of b))) × MatchResult result (λ _. Stamped R n h b (K.meaning self.old.keeper) (K.meaning self.new.keeper) self.new.exchanges) (λ _. (K.meaning self.new.keeper ≡ K.meaning self.old.keeper) × (self.new.exchanges ≡ self.old.exchanges))) }
     {
         let post = draft.record.event.post;
-        self.keeper.append(post, draft.header, &draft.entries)?;
+        self.keeper.append(post, draft.header, &draft.entries())?;
         if draft.record.kind == Kind::Receive {
             let _ = self.keeper.mark(draft.record.partner);
             self.exchanges.note(post, draft.record.partner.post);

@@ -20,7 +20,7 @@ use order::record::Record;
 
 // How many posts a set has, as a byte: there are at most 64.
 #[tactic(auto, using(order::proofs::PostSets::length_below_le))]
-fn size_of(posts: PostSet) -> u8
+pub(crate) fn size_of(posts: PostSet) -> u8
     ensures { result ≡ size posts.bits }
 {
     posts.size() as u8
@@ -35,6 +35,15 @@ pub fn cut(vector: Vector, cover: PostSet) -> ArrayVec<u16, 64>
         entries.push(vector.entry(post));
     }
     entries
+}
+
+impl Draft {
+    // The entries that are kept: those for the posts of the cover, ascending.
+    pub fn entries(&self) -> ArrayVec<u16, 64>
+        ensures { result.items ≡ map (at self.now.vector) (members self.now.header.cover.bits) }
+    {
+        cut(self.vector, self.header.cover)
+    }
 }
 
 impl<P: Policy, K: Keeper> Station<P, K> {
@@ -77,7 +86,6 @@ impl<P: Policy, K: Keeper> Station<P, K> {
     {
         let ruling = self.ruling(record);
         let full = self.next_full(record, ruling.cover);
-        let entries = cut(self.next_vector(record), ruling.cover);
         Draft {
             record,
             outcome: ruling.outcome,
@@ -86,7 +94,7 @@ impl<P: Policy, K: Keeper> Station<P, K> {
                 cover: ruling.cover,
                 full,
             },
-            entries,
+            vector: self.next_vector(record),
         }
     }
 }

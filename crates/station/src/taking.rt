@@ -7,6 +7,7 @@ ghost use Rattle.station.specs.declared.faults.TakeFault.TheVariants.{Barred};
 
 use super::drafts::Draft;
 use super::faults::{TakeFault, Taken};
+use super::stamping::size_of;
 use super::state::Station;
 use cluster::policy::Policy;
 use keeper::Keeper;
@@ -20,7 +21,7 @@ impl<P: Policy + Drop, K: Keeper + Drop> Station<P, K> {
         self.regroup(&draft);
         Ok(Taken {
             outcome: draft.outcome,
-            entries: draft.entries.len() as u8,
+            entries: size_of(draft.header.cover),
         })
     }
 
