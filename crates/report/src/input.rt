@@ -21,8 +21,8 @@ pub fn fill<R: Read>(input: &mut R, buffer: &mut [u8]) -> io::Result<usize>
     Ok(len)
 }
 
-// Reads the input to its end, but no further than `most` bytes. Not by `read_to_end`, which asks for little at a time: of an
-// input that comes in messages, what a read has no room for is lost. And the memory is had before anything is read.
+// Reads the input to its end, but no further than `most` bytes, into one buffer that is made before anything is read. Not by
+// `read_to_end`, which asks for little at a time: of an input that comes in messages, what a read has no room for is lost.
 pub fn read_all<R: Read>(alloc: Global, input: &mut R, most: usize) -> anyhow::Result<Vec<u8>>
     ensures { IfOk result (λ bytes. vec_len bytes ≤ most) }
 {
