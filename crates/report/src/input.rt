@@ -21,9 +21,21 @@ pub fn fill<R: Read>(input: &mut R, buffer: &mut [u8]) -> io::Result<usize>
     Ok(len)
 }
 
+// Reads the input to its end, but no further than `most` bytes. The memory grows with what is read, so `most` may be far more
+// than there is memory for. Of an input that comes in messages, what a read has no room for is lost.
+pub fn read_all<R: Read>(alloc: Global, input: &mut R, most: usize) -> io::Result<Vec<u8>>
+    ensures { IfOk result (λ bytes. vec_len bytes ≤ most) }
+{
+    let mut bytes = Vec::new(alloc);
+    input.take(most as u64).read_to_end(&mut bytes)?;
+    // `take` promises nothing of the length where it is not known what the input holds.
+    bytes.truncate(most);
+    Ok(bytes)
+}
+
 // Reads the input to its end, but no further than `most` bytes, into one buffer that is made before anything is read. Not by
 // `read_to_end`, which asks for little at a time: of an input that comes in messages, what a read has no room for is lost.
-pub fn read_all<R: Read>(alloc: Global, input: &mut R, most: usize) -> anyhow::Result<Vec<u8>>
+pub fn read_reserved<R: Read>(alloc: Global, input: &mut R, most: usize) -> anyhow::Result<Vec<u8>>
     ensures { IfOk result (λ bytes. vec_len bytes ≤ most) }
 {
     let mut bytes = vec![in alloc; 0; most]?;

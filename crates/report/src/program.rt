@@ -1,5 +1,5 @@
 // The shift program: four posts, first contact with limit 2, a pool of 4,096 cells.
-use super::input::read_all;
+use super::input::read_reserved;
 use super::work;
 use cluster::policy::FirstContact;
 use station::state::Station;
@@ -15,7 +15,7 @@ const CELLS: usize = 4_096;
 
 // Feeds standard input to a station and prints what became of each record.
 pub fn run(rt: &HostRuntime) -> anyhow::Result<()> {
-    let feed = read_all(rt.alloc(), &mut rt.stdin(), MOST)?;
+    let feed = read_reserved(rt.alloc(), &mut rt.stdin(), MOST)?;
     let mut cells = vec![in rt.alloc(); 0u16; CELLS]?;
     let mut station = Station::open(FirstContact::new(LIMIT), pool::open(POSTS, &mut cells));
     let report = work(rt.alloc(), &mut station, &feed)?;

@@ -1,4 +1,4 @@
-use super::input::read_all;
+use super::input::{read_all, read_reserved};
 use super::{Line, text};
 use cluster::outcome::Outcome;
 use order::event::Event;
@@ -24,6 +24,16 @@ fn a_line_as_text(rt: HostRuntime) -> Result<(), Fail> {
 fn input_to_a_limit(rt: HostRuntime) -> Result<(), Fail> {
     for (most, read) in [(0, 0), (2, 2), (3, 3), (4, 3)] {
         let mut input: &[u8] = &[1, 2, 3];
+        let bytes = read_reserved(rt.alloc(), &mut input, most)?;
+        assert_eq!(rt; bytes.as_slice(), &[1, 2, 3][..read]);
+    }
+    Ok(())
+}
+
+#[test]
+fn input_far_within_a_limit(rt: HostRuntime) -> Result<(), Fail> {
+    for (most, read) in [(0, 0), (2, 2), (3, 3), (4, 3), (usize::MAX, 3)] {
+        let mut input: &[u8] = &[1, 2, 3];
         let bytes = read_all(rt.alloc(), &mut input, most)?;
         assert_eq!(rt; bytes.as_slice(), &[1, 2, 3][..read]);
     }
@@ -48,7 +58,7 @@ impl Read for Messages {
 
 #[test]
 fn input_in_messages(rt: HostRuntime) -> Result<(), Fail> {
-    let bytes = read_all(rt.alloc(), &mut Messages { left: 3 }, 65_536)?;
+    let bytes = read_reserved(rt.alloc(), &mut Messages { left: 3 }, 65_536)?;
     assert_eq!(rt; bytes.len(), 1_800);
     Ok(())
 }
