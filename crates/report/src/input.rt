@@ -22,7 +22,8 @@ pub fn fill<R: Read>(input: &mut R, buffer: &mut [u8]) -> io::Result<usize>
 }
 
 // Reads the input to its end, but no further than `most` bytes. The memory grows with what is read, so `most` may be far more
-// than there is memory for. Of an input that comes in messages, what a read has no room for is lost.
+// than there is memory for. But `read_to_end` asks for little at a time: of an input that comes in messages, what a read has
+// no room for is lost.
 pub fn read_all<R: Read>(alloc: Global, input: &mut R, most: usize) -> io::Result<Vec<u8>>
     ensures { IfOk result (λ bytes. vec_len bytes ≤ most) }
 {
@@ -33,8 +34,7 @@ pub fn read_all<R: Read>(alloc: Global, input: &mut R, most: usize) -> io::Resul
     Ok(bytes)
 }
 
-// Reads the input to its end, but no further than `most` bytes, into one buffer that is made before anything is read. Not by
-// `read_to_end`, which asks for little at a time: of an input that comes in messages, what a read has no room for is lost.
+// The same into one buffer of `most` bytes that is made before anything is read: no message loses bytes within the limit.
 pub fn read_reserved<R: Read>(alloc: Global, input: &mut R, most: usize) -> anyhow::Result<Vec<u8>>
     ensures { IfOk result (λ bytes. vec_len bytes ≤ most) }
 {

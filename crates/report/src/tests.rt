@@ -36,6 +36,8 @@ fn input_far_within_a_limit(rt: HostRuntime) -> Result<(), Fail> {
         let mut input: &[u8] = &[1, 2, 3];
         let bytes = read_all(rt.alloc(), &mut input, most)?;
         assert_eq!(rt; bytes.as_slice(), &[1, 2, 3][..read]);
+        // What is past the limit is left to the next reader.
+        assert_eq!(rt; input, &[1, 2, 3][read..]);
     }
     Ok(())
 }
